@@ -1,0 +1,4 @@
+pub mod BitLaws
+pub mod SomeLaws
+pub mod WordLaws
+pub mod EntryLaws

@@ -1,0 +1,4 @@
+pub mod Bits
+pub mod Some
+pub mod Words
+pub mod Entries

@@ -1,0 +1,14 @@
+pub mod Book
+pub mod Calls
+pub mod Check
+pub mod Faults
+pub mod Lists
+pub mod Logs
+pub mod Making
+pub mod Places
+pub mod Promise
+pub mod Records
+pub mod State
+pub mod Steps
+pub mod Table
+pub mod Torn
