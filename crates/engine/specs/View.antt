@@ -12,7 +12,9 @@ use Rattle.engine.specs.declared.engine.Engine.{Engine}
 use Rattle.engine.specs.declared.engine.Settings.{Settings}
 use Rattle.rules.specs.declared.ring.Entry.{Entry}
 use Rattle.rules.specs.declared.table.TaskRecord.{TaskRecord}
+use Rattle.rules.specs.Book.{opening}
 use Rattle.rules.specs.Making.{Makes, MakingRefused}
+use Rattle.rules.specs.Promise.{Chain, Promise}
 use Rattle.rules.specs.State.{State}
 use Prim.Native.Nat.{ℕ}
 
@@ -37,6 +39,11 @@ module _ {F C : Type 0} where
   abbrev pub MakeStep : Ghosts F → State F C → Result Engine Refusal → (Engine → State F C) → State F C → Type 0
   MakeStep Φ before (Ok e) made unmade = Makes Φ before (made e)
   MakeStep Φ before (Err refusal) made unmade = MakingRefused before refusal × (unmade ≡ before)
+
+  -- An accepted making starts a chain, and the main promise holds at its start.
+  abbrev pub Begun : Ghosts F → List C → Result Engine Refusal → (Engine → State F C) → Type 0
+  Begun Φ memory (Ok e) made = Chain Φ (made e) (opening memory) × Promise Φ (made e) (opening memory)
+  Begun Φ memory (Err refusal) made = Unit {0}
 
   -- The four references are those that were lent.
   pub record SameLoans (a b : Arrays F C) : Type 0 where

@@ -142,6 +142,6 @@ module _ {C : Type 0} where
   overlaid cells (p ∷ ps) = overlaid (set cells (p .0) (p .1)) ps
 
   -- The cells after the first k committed logs: the memory at making with the logs of places 1 to k laid over it in that order.
-  pub laid : Book C → ℕ → List C
+  unfoldable pub laid : Book C → ℕ → List C
   laid b zero = b .origin
   laid b (suc k) = overlaid (laid b k) (logIn (b .pages) (suc k))

@@ -1,3 +1,4 @@
+pub mod Admission
 pub mod Book
 pub mod Calls
 pub mod Check

@@ -3,7 +3,7 @@ ghost use mathlib.Core.Path.{_≡_};
 ghost use Prim.Native.Nat.{ℕ, _+_, _*_, _≤_, _<_};
 ghost use lib.ListN.{length, getD};
 ghost use Rattle.std.specs.Orderings.{When};
-ghost use Rattle.engine.specs.Admission.{Admits, Addresses, Addressed};
+ghost use Rattle.rules.specs.Admission.{Admits, Addresses, Addressed};
 ghost use Rattle.rules.specs.Lists.{At};
 ghost use Rattle.rules.specs.State.{Fits};
 ghost use Rattle.rules.specs.Torn.{LogRules, PhaseRules, Whole};

@@ -1,5 +1,6 @@
 // Begin: opens a transaction at the first place, from the index down, that is not unfinished.
 ghost use Rattle.rules.specs.Calls.{by, begin};
+ghost use Rattle.rules.specs.Promise.{Kept};
 ghost use Rattle.rules.specs.Steps.{Step};
 ghost use Rattle.engine.specs.View.{state, view, SameLoans};
 use super::Engine;
@@ -18,6 +19,7 @@ impl Engine {
     // The answer is the start.
     pub fn begin<M: Memory, F: Filter>(&self, memory: &M, arrays: &mut Arrays<'_, '_, '_, '_, F, M::Cell>, task: u32) -> Result<u32, Refusal>
         ensures step { λ r. ⌜ Step F·Filter (view (now (self .entry)) (contents (now (memory .entry))) (now (arrays .entry))) (by task begin) r (view (now (self .entry)) (contents (now (memory .entry))) (now (arrays .exit))) ⌝ }
+        ensures promise { λ r. ⌜ Kept F·Filter (view (now (self .entry)) (contents (now (memory .entry))) (now (arrays .entry))) (by task begin) r (view (now (self .entry)) (contents (now (memory .entry))) (now (arrays .exit))) ⌝ }
         ensures loans { λ _. ⌜ SameLoans (now (arrays .entry)) (now (arrays .exit)) ⌝ }
     {
         let Arrays { ring, table, addresses, cells } = arrays;

@@ -2,8 +2,9 @@
 ghost use Prim.Native.Nat.{_+_, _-_};
 ghost use mathlib.Core.Path.{_≡_};
 ghost use lib.ListN.{length};
-ghost use Rattle.engine.specs.Admission.{NextPlace};
+ghost use Rattle.rules.specs.Admission.{NextPlace};
 ghost use Rattle.rules.specs.Calls.{by, commit};
+ghost use Rattle.rules.specs.Promise.{Kept};
 ghost use Rattle.rules.specs.Steps.{Step};
 ghost use Rattle.engine.specs.View.{state, view, SameLoans};
 use super::Engine;
@@ -28,6 +29,7 @@ impl Engine {
     // The answer is the place, if cells were logged, and the number of filters compared.
     pub fn commit<M: Memory, F: Filter>(&mut self, memory: &M, arrays: &mut Arrays<'_, '_, '_, '_, F, M::Cell>, task: u32) -> Result<(Option<u32>, u32), Denial>
         ensures step { λ r. ⌜ Step F·Filter (view (now (self .entry)) (contents (now (memory .entry))) (now (arrays .entry))) (by task commit) r (view (now (self .exit)) (contents (now (memory .entry))) (now (arrays .exit))) ⌝ }
+        ensures promise { λ r. ⌜ Kept F·Filter (view (now (self .entry)) (contents (now (memory .entry))) (now (arrays .entry))) (by task commit) r (view (now (self .exit)) (contents (now (memory .entry))) (now (arrays .exit))) ⌝ }
         ensures loans { λ _. ⌜ SameLoans (now (arrays .entry)) (now (arrays .exit)) ⌝ }
     {
         let Arrays { ring, table, addresses, cells } = arrays;

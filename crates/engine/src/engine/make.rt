@@ -1,6 +1,6 @@
 // Making: an engine over a memory and arrays that are handed over.
 ghost use Rattle.rules.specs.Making.{Examined};
-ghost use Rattle.engine.specs.View.{asked, request, state, view, MakeStep, SameLoans};
+ghost use Rattle.engine.specs.View.{asked, request, state, view, Begun, MakeStep, SameLoans};
 use super::Engine;
 use super::Settings;
 use crate::arrays::Arrays;
@@ -21,6 +21,7 @@ impl Engine {
     // Empties every slot and every record; memory and log arrays are not touched.
     pub fn make<M: Memory, F: Filter>(settings: Settings, memory: &M, arrays: &mut Arrays<'_, '_, '_, '_, F, M::Cell>) -> Result<Engine, Refusal>
         ensures step { λ r. ⌜ MakeStep F·Filter (request settings (contents (now (memory .entry))) (now (arrays .entry))) r (λ e. view e (contents (now (memory .entry))) (now (arrays .exit))) (request settings (contents (now (memory .entry))) (now (arrays .exit))) ⌝ }
+        ensures promise { λ r. ⌜ Begun F·Filter (contents (now (memory .entry))) r (λ e. view e (contents (now (memory .entry))) (now (arrays .exit))) ⌝ }
         ensures loans { λ _. ⌜ SameLoans (now (arrays .entry)) (now (arrays .exit)) ⌝ }
     {
         let Arrays { ring, table, addresses, cells } = arrays;

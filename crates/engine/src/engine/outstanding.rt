@@ -1,5 +1,6 @@
 // Outstanding: adds up what the Committed records owe.
 ghost use Rattle.rules.specs.Calls.{outstanding};
+ghost use Rattle.rules.specs.Promise.{Kept};
 ghost use Rattle.rules.specs.Steps.{Step};
 ghost use Rattle.engine.specs.View.{state, view, SameLoans};
 use super::Engine;
@@ -18,6 +19,7 @@ impl Engine {
     // What the unfinished writers owe together: for each one for every cell not yet written and one more.
     pub fn outstanding<M: Memory, F: Filter>(&self, memory: &M, arrays: &mut Arrays<'_, '_, '_, '_, F, M::Cell>) -> Result<u32, Refusal>
         ensures step { λ r. ⌜ Step F·Filter (view (now (self .entry)) (contents (now (memory .entry))) (now (arrays .entry))) outstanding r (view (now (self .entry)) (contents (now (memory .entry))) (now (arrays .exit))) ⌝ }
+        ensures promise { λ r. ⌜ Kept F·Filter (view (now (self .entry)) (contents (now (memory .entry))) (now (arrays .entry))) outstanding r (view (now (self .entry)) (contents (now (memory .entry))) (now (arrays .exit))) ⌝ }
         ensures loans { λ _. ⌜ SameLoans (now (arrays .entry)) (now (arrays .exit)) ⌝ }
     {
         let Arrays { ring, table, addresses, cells } = arrays;

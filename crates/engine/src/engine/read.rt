@@ -1,5 +1,6 @@
 // Read: a logged cell, or the memory's cell once the check has passed.
 ghost use Rattle.rules.specs.Calls.{by, read};
+ghost use Rattle.rules.specs.Promise.{Kept};
 ghost use Rattle.rules.specs.Steps.{Step};
 ghost use Rattle.engine.specs.View.{state, view, SameLoans};
 use super::Engine;
@@ -21,6 +22,7 @@ impl Engine {
     // The answer is the cell and the number of filters compared.
     pub fn read<M: Memory, F: Filter>(&self, memory: &M, arrays: &mut Arrays<'_, '_, '_, '_, F, M::Cell>, task: u32, address: u32) -> Result<(M::Cell, u32), Denial>
         ensures step { λ r. ⌜ Step F·Filter (view (now (self .entry)) (contents (now (memory .entry))) (now (arrays .entry))) (by task (read address)) r (view (now (self .entry)) (contents (now (memory .entry))) (now (arrays .exit))) ⌝ }
+        ensures promise { λ r. ⌜ Kept F·Filter (view (now (self .entry)) (contents (now (memory .entry))) (now (arrays .entry))) (by task (read address)) r (view (now (self .entry)) (contents (now (memory .entry))) (now (arrays .exit))) ⌝ }
         ensures loans { λ _. ⌜ SameLoans (now (arrays .entry)) (now (arrays .exit)) ⌝ }
     {
         let Arrays { ring, table, addresses, cells } = arrays;

@@ -1,5 +1,6 @@
 // Work: writes the next logged cell back, or finishes the writer.
 ghost use Rattle.rules.specs.Calls.{by, work};
+ghost use Rattle.rules.specs.Promise.{Kept};
 ghost use Rattle.rules.specs.Steps.{Step};
 ghost use Rattle.engine.specs.View.{state, view, SameLoans};
 ghost use mathlib.Core.Path.{_≡_};
@@ -24,6 +25,7 @@ impl Engine {
     // The answer is how many cells are left, or done with the place.
     pub fn work<M: Memory, F: Filter>(&self, memory: &mut M, arrays: &mut Arrays<'_, '_, '_, '_, F, M::Cell>, task: u32) -> Result<Worked, Refusal>
         ensures step { λ r. ⌜ Step F·Filter (view (now (self .entry)) (contents (now (memory .entry))) (now (arrays .entry))) (by task work) r (view (now (self .entry)) (contents (now (memory .exit))) (now (arrays .exit))) ⌝ }
+        ensures promise { λ r. ⌜ Kept F·Filter (view (now (self .entry)) (contents (now (memory .entry))) (now (arrays .entry))) (by task work) r (view (now (self .entry)) (contents (now (memory .exit))) (now (arrays .exit))) ⌝ }
         ensures rest { λ _. ⌜ rest (now (memory .exit)) ≡ rest (now (memory .entry)) ⌝ }
         ensures lender { λ _. ⌜ lender (now (memory .exit)) ≡ lender (now (memory .entry)) ⌝ }
         ensures loans { λ _. ⌜ SameLoans (now (arrays .entry)) (now (arrays .exit)) ⌝ }

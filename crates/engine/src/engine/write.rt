@@ -1,5 +1,6 @@
 // Write: logs a cell for its address.
 ghost use Rattle.rules.specs.Calls.{by, write};
+ghost use Rattle.rules.specs.Promise.{Kept};
 ghost use Rattle.rules.specs.Steps.{Step};
 ghost use Rattle.engine.specs.View.{state, view, SameLoans};
 use super::Engine;
@@ -19,6 +20,7 @@ impl Engine {
     // The answer is the logged count.
     pub fn write<M: Memory, F: Filter>(&self, memory: &M, arrays: &mut Arrays<'_, '_, '_, '_, F, M::Cell>, task: u32, address: u32, cell: M::Cell) -> Result<u32, Refusal>
         ensures step { λ r. ⌜ Step F·Filter (view (now (self .entry)) (contents (now (memory .entry))) (now (arrays .entry))) (by task (write address cell)) r (view (now (self .entry)) (contents (now (memory .entry))) (now (arrays .exit))) ⌝ }
+        ensures promise { λ r. ⌜ Kept F·Filter (view (now (self .entry)) (contents (now (memory .entry))) (now (arrays .entry))) (by task (write address cell)) r (view (now (self .entry)) (contents (now (memory .entry))) (now (arrays .exit))) ⌝ }
         ensures loans { λ _. ⌜ SameLoans (now (arrays .entry)) (now (arrays .exit)) ⌝ }
     {
         let Arrays { ring, table, addresses, cells } = arrays;

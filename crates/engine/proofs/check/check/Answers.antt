@@ -6,7 +6,7 @@ use Prim.Native.Nat.{ℕ}
 use Rattle.std.proofs.shelf.Bits.{mod-below}
 use Rattle.rules.specs.Check.{AllAsked, Advanced}
 use Rattle.rules.specs.Places.{Present}
-use Rattle.engine.proofs.Walks.{complete-settled, advanced-pending, advanced-finished, asked-more}
+use Rattle.rules.proofs.Walks.{complete-settled, advanced-pending, advanced-finished, asked-more}
 use Rattle.engine.proofs.check.check.Given as given
 use Rattle.engine.proofs.check.check.Needs as need
 use Rattle.engine.proofs.check.check.Needs.{After-meets}

@@ -1,6 +1,6 @@
 use Prim.Native.Nat.{_+_, _-_, _*_}
 use native.Mathlib.Omega.{arith}
-use Rattle.engine.proofs.Searches.{searched-part}
+use Rattle.rules.proofs.Searches.{searched-part}
 use Rattle.engine.proofs.log.lookup.Needs as need
 
 pub returns : need.returns

@@ -1,5 +1,5 @@
 use native.Mathlib.Omega.{arith}
-use Rattle.engine.proofs.Walks.{free-more}
+use Rattle.rules.proofs.Walks.{free-more}
 use Rattle.engine.proofs.ring.blocking.Needs as need
 
 pub loop-older-again : need.loop-older-again

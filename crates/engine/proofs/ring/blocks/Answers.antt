@@ -1,5 +1,5 @@
 use Rattle.std.proofs.shelf.Bits.{mod-below}
-use Rattle.engine.proofs.Walks.{decide-meets}
+use Rattle.rules.proofs.Walks.{decide-meets}
 use Rattle.engine.proofs.ring.blocks.Needs as need
 
 pub returns : need.returns

@@ -4,7 +4,7 @@ use native.Mathlib.Omega.{arith}
 use lib.ListN.{length, getD, take, drop}
 use borrow.Author.Needs.{needs}
 use Rattle.std.proofs.shelf.Lists.{length-take, length-drop}
-use Rattle.engine.proofs.Rooms.{log-room, part-at}
+use Rattle.rules.proofs.Rooms.{log-room, part-at}
 use Rattle.engine.proofs.engine.admit.log_rules.Needs as need
 
 pub part-log-end : need.part-log-end

@@ -6,7 +6,7 @@ use Rattle.rules.specs.declared.table.TaskRecord.{TaskRecord}
 use Rattle.rules.specs.Calls.{begin}
 use Rattle.rules.specs.Places.{Settled}
 use Rattle.engine.specs.View.{state}
-use Rattle.engine.proofs.Clears.{accepts, rejects}
+use Rattle.rules.proofs.Clears.{accepts, rejects}
 use Rattle.engine.proofs.engine.begin.begin_task.Needs as need
 
 pub returns-in-Break-admit : need.returns-in-Break-admit

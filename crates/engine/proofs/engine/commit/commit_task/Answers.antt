@@ -11,8 +11,8 @@ use Rattle.rules.specs.Check.{Checks}
 use Rattle.rules.specs.Records.{afterCommit}
 use Rattle.rules.specs.Steps.{CommitChecks}
 use Rattle.engine.specs.View.{state}
-use Rattle.engine.proofs.Clears.{rejects, next-refuses, next-accepts, nothing-accepts}
-use Rattle.engine.proofs.Frames.{record-put, entry-put}
+use Rattle.rules.proofs.Clears.{rejects, next-refuses, next-accepts, nothing-accepts}
+use Rattle.rules.proofs.Frames.{record-put, entry-put}
 use Rattle.engine.proofs.engine.commit.commit_task.Given as given
 use Rattle.engine.proofs.engine.commit.commit_task.Needs as need
 use Rattle.engine.proofs.engine.commit.commit_task.Needs.{After-check}

@@ -7,8 +7,8 @@ use Rattle.rules.specs.Making.{Vacant}
 use Rattle.rules.specs.Records.{Emptied}
 use Rattle.rules.specs.State.{State}
 use Rattle.engine.specs.View.{asked}
-use Rattle.engine.proofs.Frames.{made-over}
-use Rattle.engine.proofs.Limits.{makes-no-fault}
+use Rattle.rules.proofs.Frames.{made-over}
+use Rattle.rules.proofs.Limits.{makes-no-fault}
 use Rattle.engine.proofs.engine.make.make_engine.Needs as need
 
 pub returns : need.returns

@@ -10,7 +10,7 @@ use Rattle.rules.specs.Steps.{owes}
 use Rattle.rules.specs.Torn.{PhaseRules}
 use Rattle.engine.specs.View.{state}
 use Rattle.rules.proofs.AtLaws.{at-below-more}
-use Rattle.engine.proofs.Counts.{torn-refuses, whole-accepts, owes-more, owes-idle, owes-committed}
+use Rattle.rules.proofs.Counts.{torn-refuses, whole-accepts, owes-more, owes-idle, owes-committed}
 use Rattle.engine.proofs.engine.outstanding.count_owed.Given as given
 use Rattle.engine.proofs.engine.outstanding.count_owed.Needs as need
 use Rattle.engine.proofs.engine.outstanding.count_owed.Needs.{in-Committed, in-Idle}

@@ -2,8 +2,8 @@ use mathlib.Core.Path.{refl}
 use Rattle.std.proofs.shelf.Results.{err-from-errBy}
 use Rattle.rules.specs.Calls.{quit}
 use Rattle.engine.specs.View.{state}
-use Rattle.engine.proofs.Clears.{accepts, rejects}
-use Rattle.engine.proofs.Frames.{record-put}
+use Rattle.rules.proofs.Clears.{accepts, rejects}
+use Rattle.rules.proofs.Frames.{record-put}
 use Rattle.engine.proofs.engine.quit.quit_task.Needs as need
 
 pub returns-in-Break-record : need.returns-in-Break-record

@@ -14,10 +14,10 @@ use Rattle.rules.specs.Logs.{Lacks, First}
 use Rattle.rules.specs.Records.{afterRead}
 use Rattle.rules.specs.Steps.{ReadChecks}
 use Rattle.engine.specs.View.{state}
-use Rattle.engine.proofs.Clears.{accepts, rejects}
-use Rattle.engine.proofs.Frames.{record-put}
-use Rattle.engine.proofs.Phases.{open-rules}
-use Rattle.engine.proofs.Rooms.{log-room}
+use Rattle.rules.proofs.Clears.{accepts, rejects}
+use Rattle.rules.proofs.Frames.{record-put}
+use Rattle.rules.proofs.Phases.{open-rules}
+use Rattle.rules.proofs.Rooms.{log-room}
 use Rattle.engine.proofs.engine.read.read_task.Given as given
 use Rattle.engine.proofs.engine.read.read_task.Needs as need
 use Rattle.engine.proofs.engine.read.read_task.Needs.{After-check}

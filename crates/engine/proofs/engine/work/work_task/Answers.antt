@@ -14,10 +14,10 @@ use Rattle.rules.specs.Records.{afterWork}
 use Rattle.rules.specs.Torn.{CommittedRules}
 use Rattle.engine.specs.View.{state}
 use Rattle.rules.proofs.AtLaws.{at-one}
-use Rattle.engine.proofs.Clears.{rejects, wait-refuses, work-accepts, finish-free, write-free}
-use Rattle.engine.proofs.Frames.{entry-put, cell-put}
-use Rattle.engine.proofs.Phases.{committed-rules}
-use Rattle.engine.proofs.Rooms.{log-room}
+use Rattle.rules.proofs.Clears.{rejects, wait-refuses, work-accepts, finish-free, write-free}
+use Rattle.rules.proofs.Frames.{entry-put, cell-put}
+use Rattle.rules.proofs.Phases.{committed-rules}
+use Rattle.rules.proofs.Rooms.{log-room}
 use Rattle.engine.proofs.engine.work.work_task.Given as given
 use Rattle.engine.proofs.engine.work.work_task.Needs as need
 use Rattle.engine.proofs.engine.work.work_task.Needs.{In-Continue-record, Else-record, After-item-address}

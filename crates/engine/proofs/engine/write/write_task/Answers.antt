@@ -8,10 +8,10 @@ use Rattle.rules.specs.declared.table.CallKind.the-variants.{Write}
 use Rattle.rules.specs.Calls.{write}
 use Rattle.rules.specs.Records.{afterAppend}
 use Rattle.engine.specs.View.{state}
-use Rattle.engine.proofs.Clears.{accepts, rejects, refuses-full, room-found, room-left}
-use Rattle.engine.proofs.Frames.{logged-put, pair-put}
-use Rattle.engine.proofs.Phases.{open-rules}
-use Rattle.engine.proofs.Rooms.{log-room}
+use Rattle.rules.proofs.Clears.{accepts, rejects, refuses-full, room-found, room-left}
+use Rattle.rules.proofs.Frames.{logged-put, pair-put}
+use Rattle.rules.proofs.Phases.{open-rules}
+use Rattle.rules.proofs.Rooms.{log-room}
 use Rattle.engine.proofs.engine.write.write_task.Given as given
 use Rattle.engine.proofs.engine.write.write_task.Needs as need
 use Rattle.engine.proofs.engine.write.write_task.Needs.{Else-record-engine}

@@ -1,0 +1,3 @@
+pub mod Play
+pub mod Determined
+pub mod Exactness

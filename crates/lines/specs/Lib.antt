@@ -1,0 +1,5 @@
+pub mod Decimal
+pub mod Line
+pub mod Grammar
+pub mod Reading
+pub mod Printed

@@ -1,0 +1,3 @@
+// The schedule runner: plays the lines of a text over the engine and prints one line for each.
+pub mod face;
+mod turn;
