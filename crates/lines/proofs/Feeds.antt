@@ -102,10 +102,11 @@ no-feed-placed : (place : Option ℕ) → NoFeed (placed place)
 no-feed-placed (Some place) = no-feed-decimal place
 no-feed-placed None = ((λ e. omega arith), tt)
 
--- The words `ok` and `done` have no line feed.
+-- The word `ok` has no line feed.
 no-feed-ok : NoFeed (codes "ok")
 no-feed-ok = ((λ e. omega arith), ((λ e. omega arith), tt))
 
+-- The word `done` has no line feed.
 no-feed-done : NoFeed (codes "done")
 no-feed-done = ((λ e. omega arith), ((λ e. omega arith), ((λ e. omega arith), ((λ e. omega arith), tt))))
 

@@ -1,8 +1,8 @@
 -- A spelling determines its command.
 use mathlib.Core.Path.{_≡_, refl, sym, ap, _∙_}
 use mathlib.Core.Bool.{cond}
-use mathlib.Core.List.{List, [], _∷_, _++_, map, append-nil}
-use Prim.Native.Nat.{ℕ, _+_, _≤_, _<_}
+use mathlib.Core.List.{List, [], _∷_, _++_, map}
+use Prim.Native.Nat.{ℕ, _≤_}
 use native.Mathlib.Omega.{arith}
 use lib.Dec.{eqb}
 use lib.ListN.{length, getD, drop}
@@ -10,7 +10,6 @@ use Rattle.lines.specs.Decimal.{decimal}
 use Rattle.lines.specs.Grammar.{most, Small, letter, numbers, spelled, Allowed}
 use Rattle.lines.specs.Line.{spaced, lineOf}
 use Rattle.lines.specs.Reading.{Means, LineAt, CommandAt, NoLine, NoCommand}
-use Rattle.lines.specs.declared.command.Area.{Area}
 use Rattle.lines.specs.declared.command.Area.the-variants.{Words, Tags}
 use Rattle.lines.specs.declared.command.Command.{Command}
 use Rattle.lines.specs.declared.command.Command.the-variants.{Make, Begin, Read, Write, WriteTag, Commit, Work, Quit}

@@ -4,3 +4,5 @@ mod fields;
 mod line;
 pub mod reader;
 pub mod report;
+#[cfg(test)]
+mod tests;

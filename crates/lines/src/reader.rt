@@ -1,9 +1,11 @@
 // Reads a schedule text line by line.
 ghost use mathlib.Core.Path.{_≡_};
-ghost use Prim.Native.Nat.{_≤_};
+ghost use mathlib.Core.List.{[], _∷_};
+ghost use Prim.Native.Nat.{_≤_, _<_};
 ghost use lib.ListN.{length};
 ghost use Rattle.lines.specs.Reading.{CommandAt, Meant, NoCommand, Reads};
 ghost use Rattle.std.specs.Options.{Cases};
+ghost use Rattle.std.specs.Orderings.{When};
 use crate::command::Area;
 use crate::command::Command;
 use crate::command::Expected;
@@ -12,12 +14,31 @@ use crate::fields::fields_at;
 
 // The largest memory: the length of the ring, the tasks, the length of a log, and the cells.
 const SLOTS: u32 = 64;
+
 const TASKS: u32 = 8;
+
 const PAIRS: u32 = 16;
+
 const CELLS: u32 = 256;
 
 // The largest quality of a cell.
 const QUALITY: u32 = 255;
+
+fn within(slots: u32, tasks: u32, pairs: u32, cells: u32) -> bool
+    ensures { λ r. ⌜ When r ((slots ≤ 64) × (tasks ≤ 8) × (pairs ≤ 16) × (cells ≤ 256)) (slots ≤ 64 → tasks ≤ 8 → pairs ≤ 16 → cells ≤ 256 → ⊥) ⌝ }
+{
+    slots <= SLOTS && tasks <= TASKS && pairs <= PAIRS && cells <= CELLS
+}
+
+fn quality_of(number: u32) -> Option<u8>
+    ensures { λ r. ⌜ Cases r (255 < number) (λ q. (q ≡ number) × (number ≤ 255)) ⌝ }
+{
+    if number <= QUALITY {
+        Some(number as u8)
+    } else {
+        None
+    }
+}
 
 // The command of a first line: it makes the memory, within its limits.
 fn first(letter: char, numbers: &[u32]) -> Option<Command>
@@ -31,7 +52,7 @@ fn first(letter: char, numbers: &[u32]) -> Option<Command>
     let &[slots, tasks, pairs, last, cells] = numbers else {
         return None;
     };
-    if slots > SLOTS || tasks > TASKS || pairs > PAIRS || cells > CELLS {
+    if !within(slots, tasks, pairs, cells) {
         return None;
     }
     Some(Command::Make {
@@ -56,41 +77,66 @@ fn read(numbers: &[u32]) -> Option<Command>
     }
 }
 
-// A write has a quality where the memory has tags, and only there.
-fn write(area: Area, numbers: &[u32]) -> Option<Command>
-    ensures { λ r. ⌜ Meant (Expected.After area) 119 (now (numbers .entry)) r ⌝ }
+fn write_word(numbers: &[u32]) -> Option<Command>
+    ensures { λ r. ⌜ Meant (Expected.After Area.Words) 119 (now (numbers .entry)) r ⌝ }
 {
-    match (area, numbers) {
-        (Area::Words, [task, address, value]) => Some(Command::Write {
+    match numbers {
+        [task, address, value] => Some(Command::Write {
             task: *task,
             address: *address,
             value: *value,
         }),
-        (Area::Tags, [task, address, value, quality]) if *quality <= QUALITY => {
-            Some(Command::WriteTag {
-                task: *task,
-                address: *address,
-                value: *value,
-                quality: *quality as u8,
-            })
-        }
         _ => None,
     }
 }
 
-// A command that has no number but its task.
-fn alone(letter: char, numbers: &[u32]) -> Option<Command>
-    requires { ⌜ (letter ≡ 114 → ⊥) × (letter ≡ 119 → ⊥) ⌝ }
-    ensures { λ r. ⌜ ((area : Area) → Meant (Expected.After area) letter (now (numbers .entry)) r) ⌝ }
+fn write_tag(numbers: &[u32]) -> Option<Command>
+    ensures { λ r. ⌜ Meant (Expected.After Area.Tags) 119 (now (numbers .entry)) r ⌝ }
 {
-    let &[task] = numbers else {
+    let &[task, address, value, number] = numbers else {
         return None;
     };
+    match quality_of(number) {
+        Some(quality) => Some(Command::WriteTag {
+            task,
+            address,
+            value,
+            quality,
+        }),
+        None => None,
+    }
+}
+
+// A write has a quality where the memory has tags, and only there.
+fn write(area: Area, numbers: &[u32]) -> Option<Command>
+    ensures { λ r. ⌜ Meant (Expected.After area) 119 (now (numbers .entry)) r ⌝ }
+{
+    match area {
+        Area::Words => write_word(numbers),
+        Area::Tags => write_tag(numbers),
+    }
+}
+
+// A command that has no number but its task.
+fn of_task(letter: char, task: u32) -> Option<Command>
+    requires { ⌜ (letter ≡ 114 → ⊥) × (letter ≡ 119 → ⊥) ⌝ }
+    ensures { λ r. ⌜ ((area : Area) → Meant (Expected.After area) letter (task ∷ []) r) ⌝ }
+{
     match letter {
         'b' => Some(Command::Begin { task }),
         'c' => Some(Command::Commit { task }),
         'k' => Some(Command::Work { task }),
         'q' => Some(Command::Quit { task }),
+        _ => None,
+    }
+}
+
+fn alone(letter: char, numbers: &[u32]) -> Option<Command>
+    requires { ⌜ (letter ≡ 114 → ⊥) × (letter ≡ 119 → ⊥) ⌝ }
+    ensures { λ r. ⌜ ((area : Area) → Meant (Expected.After area) letter (now (numbers .entry)) r) ⌝ }
+{
+    match numbers {
+        [task] => of_task(letter, *task),
         _ => None,
     }
 }

@@ -1,9 +1,10 @@
 // The lines of a report.
 ghost use mathlib.Core.Path.{_≡_};
-ghost use Prim.Native.Nat.{_≤_};
+ghost use Prim.Native.Nat.{_+_, _≤_, _<_};
 ghost use lib.ListN.{length, take};
 ghost use Rattle.lines.specs.Printed.{printed, Put, Full};
 ghost use Rattle.std.specs.Options.{Cases};
+ghost use Rattle.std.specs.Orderings.{When};
 use crate::command::Area;
 use crate::command::AreaDebug;
 use crate::command::AreaPartialEq;
@@ -148,17 +149,28 @@ fn line_of(report: Report) -> Line
     }
 }
 
+fn fits(long: usize, at: usize, room: usize) -> bool
+    ensures { λ r. ⌜ When r (at + long ≤ room) (room < at + long) ⌝ }
+{
+    at <= room && long <= room - at
+}
+
+fn put(bytes: &[u8], out: &mut [u8], at: usize) -> Option<usize>
+    ensures { λ r. ⌜ Cases r (Full (now (bytes .entry)) at (now (out .entry)) (now (out .exit))) (Put (now (bytes .entry)) at (now (out .entry)) (now (out .exit))) ⌝ }
+{
+    if !fits(bytes.len(), at, out.len()) {
+        return None;
+    }
+    let end = at + bytes.len();
+    out[at..end].copy_from_slice(bytes);
+    Some(end)
+}
+
 // Writes the line of the report behind `at` and answers the position behind it, or `None` where it does not fit.
 pub fn print(report: Report, out: &mut [u8], at: usize) -> Option<usize>
     ensures writes { λ r. ⌜ Cases r (Full (printed report) at (now (out .entry)) (now (out .exit))) (Put (printed report) at (now (out .entry)) (now (out .exit))) ⌝ }
     ensures short { λ _. ⌜ length (printed report) ≤ 64 ⌝ }
 {
     let line = line_of(report);
-    let bytes = line.as_slice();
-    if at > out.len() || bytes.len() > out.len() - at {
-        return None;
-    }
-    let end = at + bytes.len();
-    out[at..end].copy_from_slice(bytes);
-    Some(end)
+    put(line.as_slice(), out, at)
 }

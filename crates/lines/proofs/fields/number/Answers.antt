@@ -1,10 +1,12 @@
-use mathlib.Core.Path.{_≡_, sym, ap, _∙_}
+use mathlib.Core.Path.{sym, ap, _∙_}
 use mathlib.Core.List.{_++_}
 use mathlib.Core.Logic.{inl, inr}
-use Prim.Native.Nat.{ℕ, _+_, _*_, _<_}
+use Prim.Native.Nat.{_+_}
 use native.Mathlib.Omega.{arith}
 use lib.ListN.{drop}
+use Rattle.std.proofs.shelf.Tests.{cases-lt}
 use Rattle.lines.specs.Decimal.{decimal}
+use Rattle.lines.specs.Reading.{NoNumber}
 use Rattle.lines.proofs.Reading.{number-one, number-more, no-number-none, no-number-zero, no-number-past}
 use Rattle.lines.proofs.fields.number.Needs as need
 
@@ -16,28 +18,23 @@ loop-next-holds c =
     let d = c .in-Continue-value .ensures tt in
     (number-one (c .args .text .now) (c .args .at) (c .in-Continue-value .value) d, omega arith, omega (arith, d .inside), omega (arith, d .one))
 
-pub mul-wider : need.mul-wider
-mul-wider c = omega (arith, c .loop-next .inv .3)
-
-pub add-wider : need.add-wider
-add-wider c = omega (arith, c .loop-next .inv .3, c .in-Some .ensures tt .one)
-
-pub returns-then-value-eq0 : need.returns-then-value-eq0
-returns-then-value-eq0 c =
+-- The next digit stands behind a leading zero, or makes the number too large.
+pub returns-in-Break-value-2 : need.returns-in-Break-value-2
+returns-in-Break-value-2 c =
     let d = c .in-Some .ensures tt in
-    elim (c .then-value-eq0 .either) [
-      | inl z ↦ no-number-zero (c .args .text .now) (c .args .at) (c .loop-next .end) (c .loop-next .value) (c .in-Some .next) (c .loop-next .inv .0) d z
-      | inr p ↦
-          no-number-past (c .args .text .now) (c .args .at) (c .loop-next .end) (c .loop-next .value) (c .in-Some .next) (c .loop-next .inv .0) d
-          (omega (arith, p .0)) (omega (arith, p .1, c .from .ensures, c .from-in-Some .ensures))
-    ]
+    let none : NoNumber (c .args .text .now) (c .args .at) =
+    elim (cases-lt 0 (c .loop-next .value)) [
+      | inl some ↦ no-number-past (c .args .text .now) (c .args .at) (c .loop-next .end) (c .loop-next .value) (c .in-Some .next) (c .loop-next .inv .0) d some (c .in-Break-value-2 .ensures tt some)
+      | inr none ↦ no-number-zero (c .args .text .now) (c .args .at) (c .loop-next .end) (c .loop-next .value) (c .in-Some .next) (c .loop-next .inv .0) d (omega arith)
+    ] in
+    rw (c .from-residual-in-Break-value-2 .ensures) none
 
 pub loop-next-again : need.loop-next-again
 loop-next-again c =
     let d = c .in-Some .ensures tt in
-    let wider : c .loop-next .value * 10 + c .in-Some .next ≡ c .from .result * 10 + c .from-in-Some .result = omega (arith, c .from .ensures, c .from-in-Some .ensures) in (
-      number-more (c .args .text .now) (c .args .at) (c .loop-next .end) (c .loop-next .value) (c .in-Some .next) (c .loop-next .inv .0) d (omega (arith, c .if-value-eq0 .left))
-          ∙ ap (λ v. decimal v ++ drop (c .loop-next .end + 1) (c .args .text .now)) wider,
+    let n = c .in-Continue-value-2 .ensures tt in (
+      number-more (c .args .text .now) (c .args .at) (c .loop-next .end) (c .loop-next .value) (c .in-Some .next) (c .loop-next .inv .0) d (n .0)
+          ∙ ap (λ v. decimal v ++ drop (c .loop-next .end + 1) (c .args .text .now)) (sym (n .1)),
       omega arith,
       omega (arith, d .inside),
       omega arith,

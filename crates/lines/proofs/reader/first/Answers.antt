@@ -1,4 +1,4 @@
-use mathlib.Core.Path.{_≡_, refl, sym, ap, _∙_}
+use mathlib.Core.Path.{sym, ap, _∙_}
 use native.Mathlib.Omega.{arith}
 use borrow.Author.Needs.{needs}
 use Rattle.lines.specs.Grammar.{areaLetter}
@@ -7,12 +7,14 @@ use Rattle.lines.proofs.reader.first.Needs as need
 use Rattle.lines.proofs.reader.first.Needs.{in-m, in-t}
 
 pub returns : need.returns
-returns c = record {
-  allowed = (c .if-slots-gt-SLOTS .left, c .if-tasks-gt-TASKS .left, c .if-pairs-gt-PAIRS .left, omega (arith, c .typed .numbers 3), c .if-cells-gt-CELLS .left);
-  begins =
-      elim (c .match-letter .came) [
-        | in-m w ↦ ap areaLetter (w .area-is) ∙ sym (w .in-m .is)
-        | in-t w ↦ ap areaLetter (w .area-is) ∙ sym (w .in-t .is)
-      ];
-  goes = listed 5 (c .args .numbers .now) (search needs);
-}
+returns c =
+    let limits = c .if-not-within .ensures tt in
+    record {
+      allowed = (limits .0, limits .1, limits .2, omega (arith, c .typed .numbers 3), limits .3);
+      begins =
+          elim (c .match-letter .came) [
+            | in-m w ↦ ap areaLetter (w .area-is) ∙ sym (w .in-m .is)
+            | in-t w ↦ ap areaLetter (w .area-is) ∙ sym (w .in-t .is)
+          ];
+      goes = listed 5 (c .args .numbers .now) (search needs);
+    }

@@ -1,10 +1,10 @@
 use mathlib.Core.Path.{sym, ap, _∙_}
 use mathlib.Core.List.{_++_, _∷_, [], map}
 use native.Mathlib.Omega.{arith}
-use lib.ListN.{getD, take}
+use lib.ListN.{getD}
 use Rattle.std.proofs.shelf.Lists.{take-all}
 use Rattle.lines.specs.Decimal.{decimal}
-use Rattle.lines.specs.Line.{spaced, lineOf}
+use Rattle.lines.specs.Line.{lineOf}
 use Rattle.lines.proofs.Buffers.{spaced-more}
 use Rattle.lines.proofs.line.Line.of.Needs as need
 
