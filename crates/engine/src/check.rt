@@ -34,5 +34,8 @@ pub(crate) fn check<F: Filter>(ring: &[Entry<F>], reads: &F, index: u32, start: 
             Status::Complete => {}
         }
     }
-    Verdict::Passed { start: advanced, compared }
+    Verdict::Passed {
+        start: advanced,
+        compared,
+    }
 }

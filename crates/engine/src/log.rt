@@ -18,7 +18,14 @@ pub(crate) fn find<C: Copy>(addresses: &[u32], cells: &[C], address: u32) -> Opt
 }
 
 // The same in the log of task `task`, which has `logged` of at most `pairs` pairs; the position counts from the log's begin.
-pub(crate) fn lookup<C: Copy>(addresses: &[u32], cells: &[C], task: u32, pairs: u32, logged: u32, address: u32) -> Option<(usize, C)>
+pub(crate) fn lookup<C: Copy>(
+    addresses: &[u32],
+    cells: &[C],
+    task: u32,
+    pairs: u32,
+    logged: u32,
+    address: u32,
+) -> Option<(usize, C)>
     requires { ⌜ task * pairs + logged ≤ length (now addresses) ⌝ ∗ ⌜ length (now cells) ≡ length (now addresses) ⌝ }
     ensures { λ r. ⌜ Searched (now (addresses .entry)) (now (cells .entry)) (task * pairs) logged address r ⌝ }
 {

@@ -53,7 +53,12 @@ fn blocks<F: Filter>(ring: &[Entry<F>], writes: &F, place: u32) -> bool
 }
 
 // The highest place below `place` and above `start` that blocks, if there is one.
-pub(crate) fn blocking<F: Filter>(ring: &[Entry<F>], writes: &F, start: u32, place: u32) -> Option<u32>
+pub(crate) fn blocking<F: Filter>(
+    ring: &[Entry<F>],
+    writes: &F,
+    start: u32,
+    place: u32,
+) -> Option<u32>
     requires { ⌜ 0 < length (now ring) ⌝ ∗ ⌜ start < place ⌝ }
     ensures { λ r. ⌜ Blocking F·Filter (length (now (ring .entry))) (now (ring .entry)) (now (writes .entry)) start place r ⌝ }
 {

@@ -91,10 +91,10 @@ module _ {F C : Type 0} (Φ : Ghosts F) (s : State F C) (t : ℕ) (act : Act C) 
 
     -- The rest of the checks, where the shared ones are passed.
     module _ (n : ℕ)
-      (room : 23 < n → Full Φ s t act → ⊥)
-      (places : 24 < n → Commits Φ s t act (s .index ≡ s .last) → ⊥)
-      (ring : 25 < n → Commits Φ s t act (Pending (s .slots) (s .ring) oldest) → ⊥)
-      (free : 26 < n → (place : ℕ) → Waiting Φ s t act place → ⊥) where
+        (room : 23 < n → Full Φ s t act → ⊥)
+        (places : 24 < n → Commits Φ s t act (s .index ≡ s .last) → ⊥)
+        (ring : 25 < n → Commits Φ s t act (Pending (s .slots) (s .ring) oldest) → ⊥)
+        (free : 26 < n → (place : ℕ) → Waiting Φ s t act place → ⊥) where
       pub clear-after : Clear Φ s (by t act) n
       clear-after = clear n (record {
         fits = λ _. a .addressed .fits;

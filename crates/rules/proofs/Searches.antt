@@ -28,8 +28,7 @@ module _ (xs : List ℕ) (b n m : ℕ) (same : n ≡ m) (room : b + m ≤ length
     pub searched-part : (a : ℕ) (r : Option (ℕ × C)) → Searched (take n (drop b xs)) (take n (drop b cs)) 0 (length (take n (drop b xs))) a r → Searched xs cs b m a r
     searched-part a None none = lacks-part m a (omega arith) (subst (λ (j : ℕ). Lacks (take n (drop b xs)) 0 j a) part-length none)
     searched-part a (Some found) (first, cell) =
-        let short : found .0 < m = omega (arith, first .within, part-length) in
-        (
+        let short : found .0 < m = omega (arith, first .within, part-length) in (
           record {
             within = short;
             here = sym (place-of (found .0) short) ∙ first .here;

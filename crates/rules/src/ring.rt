@@ -21,6 +21,10 @@ impl<F: Filter> Entry<F> {
     pub fn vacant() -> Entry<F>
         ensures { λ r. ⌜ Vacant F·Filter r ⌝ }
     {
-        Entry { stamp: 0, filter: F::new(), status: Status::Complete }
+        Entry {
+            stamp: 0,
+            filter: F::new(),
+            status: Status::Complete,
+        }
     }
 }

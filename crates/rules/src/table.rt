@@ -28,14 +28,30 @@ impl<F: Filter> TaskRecord<F> {
     pub fn emptied() -> TaskRecord<F>
         ensures { λ r. ⌜ Emptied F·Filter r ⌝ }
     {
-        TaskRecord { phase: Phase::Idle, start: 0, place: 0, logged: 0, written: 0, reads: F::new(), writes: F::new() }
+        TaskRecord {
+            phase: Phase::Idle,
+            start: 0,
+            place: 0,
+            logged: 0,
+            written: 0,
+            reads: F::new(),
+            writes: F::new(),
+        }
     }
 
     // Emptied, then Open with this start.
     pub fn opened(start: u32) -> TaskRecord<F>
         ensures { λ r. ⌜ Opened F·Filter start r ⌝ }
     {
-        TaskRecord { phase: Phase::Open, start, place: 0, logged: 0, written: 0, reads: F::new(), writes: F::new() }
+        TaskRecord {
+            phase: Phase::Open,
+            start,
+            place: 0,
+            logged: 0,
+            written: 0,
+            reads: F::new(),
+            writes: F::new(),
+        }
     }
 }
 

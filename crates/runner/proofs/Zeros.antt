@@ -32,8 +32,10 @@ zero-tags n bytes zeros = ap tags zeros ∙ same-lists (tags (replicate (5 * n) 
   where
     many : count (replicate (5 * n) 0) ≡ n
     many = omega (arith, length-replicate {A = ℕ} (5 * n) 0)
+
     same-length : length (tags (replicate (5 * n) 0)) ≡ length (replicate n (tagMade 0 0))
     same-length = length-map-counting (tagAt (replicate (5 * n) 0)) 0 (count (replicate (5 * n) 0)) ∙ many ∙ sym (length-replicate n (tagMade 0 0))
+
     same-tag : (k : ℕ) (d : Tag) → k < length (tags (replicate (5 * n) 0)) → getD (tags (replicate (5 * n) 0)) k d ≡ getD (replicate n (tagMade 0 0)) k d
     same-tag k d short =
         let long = length-map-counting (tagAt (replicate (5 * n) 0)) 0 (count (replicate (5 * n) 0)) in

@@ -32,7 +32,11 @@ pub impl Face for u32 as WordFace {
     }
 
     fn show(self, task: u32, compared: u32) -> Report {
-        Report::ReadWord { task, value: self, compared }
+        Report::ReadWord {
+            task,
+            value: self,
+            compared,
+        }
     }
 }
 
@@ -46,6 +50,11 @@ pub impl Face for Tag as TagFace {
     }
 
     fn show(self, task: u32, compared: u32) -> Report {
-        Report::ReadTag { task, value: self.value, quality: self.quality, compared }
+        Report::ReadTag {
+            task,
+            value: self.value,
+            quality: self.quality,
+            compared,
+        }
     }
 }

@@ -41,9 +41,13 @@ const MOST_TEXT: usize = 8192;
 
 // The fixed buffers of a run.
 const MOST_SLOTS: usize = 64;
+
 const MOST_TASKS: usize = 8;
+
 const MOST_LOGGED: usize = 128;
+
 const MOST_CELLS: usize = 256;
+
 const MOST_BYTES: usize = 1280;
 
 // Makes an engine over a memory whose cells are all at 0, with arrays of the right lengths, and plays the other lines.
@@ -61,7 +65,12 @@ fn run_over<C: Face, M: Memory<Cell = C>>(
     requires { ⌜ length (drop (now reader .at) (now (now reader .text))) ≤ 8191 ⌝ }
     ensures { λ r. ⌜ Over small (C·Face .made) (C·Face .shown) area (asked settings (contents (now (memory .entry))) (now (ring .entry)) (now (table .entry)) (now (addresses .entry)) (now (cells .entry))) (drop (now (reader .entry) .at) (now (now (reader .entry) .text))) (from (now (output .entry)) 0) (now (output .exit)) r ⌝ }
 {
-    let mut arrays = Arrays { ring, table, addresses, cells };
+    let mut arrays = Arrays {
+        ring,
+        table,
+        addresses,
+        cells,
+    };
     match Engine::make(settings, memory, &mut arrays) {
         Ok(engine) => play_on(reader, engine, memory, &mut arrays, area, output),
         Err(reason) => close(refused(reason), output, 0),
@@ -69,7 +78,14 @@ fn run_over<C: Face, M: Memory<Cell = C>>(
 }
 
 // Prints that the engine is made, and plays the other lines.
-fn play_on<C: Face, M: Memory<Cell = C>>(reader: &mut Reader<'_>, engine: Engine, memory: &mut M, arrays: &mut Arrays<'_, '_, '_, '_, Small, C>, area: Area, output: &mut [u8]) -> u64
+fn play_on<C: Face, M: Memory<Cell = C>>(
+    reader: &mut Reader<'_>,
+    engine: Engine,
+    memory: &mut M,
+    arrays: &mut Arrays<'_, '_, '_, '_, Small, C>,
+    area: Area,
+    output: &mut [u8],
+) -> u64
     requires { ⌜ length (drop (now reader .at) (now (now reader .text))) ≤ 8191 ⌝ }
     ensures { λ r. ⌜ MadeRun small (C·Face .made) (C·Face .shown) area (view engine (contents (now (memory .entry))) (now (arrays .entry))) (drop (now (reader .entry) .at) (now (now (reader .entry) .text))) (from (now (output .entry)) 0) (now (output .exit)) r ⌝ }
 {
@@ -116,7 +132,10 @@ fn run_tags(reader: &mut Reader<'_>, settings: Settings, size: u32, output: &mut
     let mut ring = [Entry::<Small>::vacant(); MOST_SLOTS];
     let mut table = [TaskRecord::<Small>::emptied(); MOST_TASKS];
     let mut addresses = [0; MOST_LOGGED];
-    let mut cells = [Tag { quality: 0, value: 0 }; MOST_LOGGED];
+    let mut cells = [Tag {
+        quality: 0,
+        value: 0,
+    }; MOST_LOGGED];
     let slots = settings.slots as usize;
     let tasks = settings.tasks as usize;
     let logged = tasks * settings.pairs as usize;
@@ -139,10 +158,23 @@ fn start(reader: &mut Reader<'_>, command: Command, output: &mut [u8]) -> u64
     requires { ⌜ length (drop (now reader .at) (now (now reader .text))) ≤ 8191 ⌝ ∗ ⌜ MayBeFirst command ⌝ }
     ensures { λ r. ⌜ FirstLine small command (drop (now (reader .entry) .at) (now (now (reader .entry) .text))) (from (now (output .entry)) 0) (now (output .exit)) r ⌝ }
 {
-    let Command::Make { area, slots, tasks, pairs, last, cells } = command else {
+    let Command::Make {
+        area,
+        slots,
+        tasks,
+        pairs,
+        last,
+        cells,
+    } = command
+    else {
         unreachable()
     };
-    let settings = Settings { slots, tasks, pairs, last };
+    let settings = Settings {
+        slots,
+        tasks,
+        pairs,
+        last,
+    };
     match area {
         Area::Words => run_words(reader, settings, cells, output),
         Area::Tags => run_tags(reader, settings, cells, output),

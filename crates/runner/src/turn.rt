@@ -20,8 +20,13 @@ pub(crate) fn refused(reason: Refusal) -> Report
     ensures { λ r. ⌜ r ≡ refusal reason ⌝ }
 {
     match reason {
-        Refusal::MustWait { place } => Report::Waiting { number: reason.code(), place },
-        _ => Report::Refused { number: reason.code() },
+        Refusal::MustWait { place } => Report::Waiting {
+            number: reason.code(),
+            place,
+        },
+        _ => Report::Refused {
+            number: reason.code(),
+        },
     }
 }
 
@@ -30,7 +35,11 @@ fn denied(task: u32, reason: Denial) -> Report
 {
     match reason {
         Denial::Refused(reason) => refused(reason),
-        Denial::Conflict { place, compared } => Report::Conflict { task, place, compared },
+        Denial::Conflict { place, compared } => Report::Conflict {
+            task,
+            place,
+            compared,
+        },
         Denial::Overrun { compared } => Report::Overrun { task, compared },
     }
 }
@@ -73,16 +82,29 @@ pub(crate) fn turn<C: Face, M: Memory<Cell = C>, F: Filter>(
             Ok(answer) => answered(task, answer),
             Err(reason) => denied(task, reason),
         },
-        Command::Write { task, address, value } => match engine.write(memory, arrays, task, address, C::make(value, 0)) {
+        Command::Write {
+            task,
+            address,
+            value,
+        } => match engine.write(memory, arrays, task, address, C::make(value, 0)) {
             Ok(logged) => Report::Wrote { task, logged },
             Err(reason) => refused(reason),
         },
-        Command::WriteTag { task, address, value, quality } => match engine.write(memory, arrays, task, address, C::make(value, quality)) {
+        Command::WriteTag {
+            task,
+            address,
+            value,
+            quality,
+        } => match engine.write(memory, arrays, task, address, C::make(value, quality)) {
             Ok(logged) => Report::Wrote { task, logged },
             Err(reason) => refused(reason),
         },
         Command::Commit { task } => match engine.commit(memory, arrays, task) {
-            Ok((place, compared)) => Report::Committed { task, place, compared },
+            Ok((place, compared)) => Report::Committed {
+                task,
+                place,
+                compared,
+            },
             Err(reason) => denied(task, reason),
         },
         Command::Work { task } => match engine.work(memory, arrays, task) {

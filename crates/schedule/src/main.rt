@@ -6,6 +6,7 @@ use std::io::Write;
 
 // One byte more than the longest text, so that a longer one shows.
 const MOST_READ: usize = 8193;
+
 const OUTPUT: usize = 65536;
 
 // Reads until the input ends or the buffer is full, and answers how many bytes were read.

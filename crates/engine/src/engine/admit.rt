@@ -9,15 +9,15 @@ ghost use Rattle.rules.specs.State.{Fits};
 ghost use Rattle.rules.specs.Torn.{LogRules, PhaseRules, Whole};
 ghost use Rattle.engine.specs.View.{state};
 use super::Engine;
-use rules::ring::Entry;
 use crate::ring::unfinished;
+use cells::memory::Memory;
+use cells::refusal::Refusal;
+use filters::filter::Filter;
+use rules::ring::Entry;
 use rules::table::CallKind;
 use rules::table::Phase;
 use rules::table::TaskRecord;
 use rules::table::allowed;
-use cells::memory::Memory;
-use cells::refusal::Refusal;
-use filters::filter::Filter;
 
 // Whether the memory and the arrays have the lengths that the engine's record says.
 pub(crate) fn fits<M: Memory, F: Filter>(
@@ -72,11 +72,19 @@ pub(crate) fn log_base(engine: &Engine, task: u32) -> usize
 }
 
 // Whether the record keeps the rules that Open and Committed records share.
-fn log_rules<F: Filter>(engine: &Engine, addresses: &[u32], task: u32, record: &TaskRecord<F>) -> bool
+fn log_rules<F: Filter>(
+    engine: &Engine,
+    addresses: &[u32],
+    task: u32,
+    record: &TaskRecord<F>,
+) -> bool
     requires { ⌜ task < now engine .tasks ⌝ ∗ ⌜ length (now addresses) ≡ now engine .tasks * now engine .pairs ⌝ }
     ensures { λ r. ⌜ When r (LogRules (now (engine .entry) .pairs) (now (engine .entry) .size) (now (engine .entry) .index) (now (addresses .entry)) (task * now (engine .entry) .pairs) (now («record» .entry))) (LogRules (now (engine .entry) .pairs) (now (engine .entry) .size) (now (engine .entry) .index) (now (addresses .entry)) (task * now (engine .entry) .pairs) (now («record» .entry)) → ⊥) ⌝ }
 {
-    if record.logged > engine.pairs || record.written > record.logged || record.start > engine.index {
+    if record.logged > engine.pairs
+        || record.written > record.logged
+        || record.start > engine.index
+    {
         return false;
     }
     let base = log_base(engine, task);
@@ -91,13 +99,21 @@ fn log_rules<F: Filter>(engine: &Engine, addresses: &[u32], task: u32, record: &
 }
 
 // Whether the record is whole. A torn one is Open or Committed and breaks a rule of its phase.
-pub(crate) fn whole<F: Filter>(engine: &Engine, ring: &[Entry<F>], addresses: &[u32], task: u32, record: &TaskRecord<F>) -> bool
+pub(crate) fn whole<F: Filter>(
+    engine: &Engine,
+    ring: &[Entry<F>],
+    addresses: &[u32],
+    task: u32,
+    record: &TaskRecord<F>,
+) -> bool
     requires { ⌜ task < now engine .tasks ⌝ ∗ ⌜ length (now addresses) ≡ now engine .tasks * now engine .pairs ⌝ ∗ ⌜ length (now ring) ≡ now engine .slots ⌝ }
     ensures { λ r. ⌜ When r (PhaseRules (now (engine .entry) .pairs) (now (engine .entry) .size) (now (engine .entry) .index) (now (engine .entry) .slots) (now (ring .entry)) (now (addresses .entry)) (task * now (engine .entry) .pairs) (now («record» .entry)) (now («record» .entry) .phase)) (PhaseRules (now (engine .entry) .pairs) (now (engine .entry) .size) (now (engine .entry) .index) (now (engine .entry) .slots) (now (ring .entry)) (now (addresses .entry)) (task * now (engine .entry) .pairs) (now («record» .entry)) (now («record» .entry) .phase) → ⊥) ⌝ }
 {
     match record.phase {
         Phase::Idle => true,
-        Phase::Open => log_rules(engine, addresses, task, record) && record.place == 0 && record.written == 0,
+        Phase::Open => log_rules(engine, addresses, task, record)
+            && record.place == 0
+            && record.written == 0,
         Phase::Committed => {
             log_rules(engine, addresses, task, record)
                 && record.logged >= 1

@@ -9,30 +9,40 @@ ghost use Rattle.rules.specs.Steps.{Step};
 ghost use Rattle.engine.specs.View.{state, view, SameLoans};
 use super::Engine;
 use super::admit::admit;
-use rules::answer::Denial;
-use rules::answer::RefusalDenial;
 use crate::arrays::Arrays;
-use rules::verdict::Verdict;
 use crate::check::check;
 use crate::lists::put;
-use rules::ring::Entry;
-use rules::ring::Status;
 use crate::ring::unfinished;
-use rules::table::CallKind;
-use rules::table::Phase;
-use rules::table::TaskRecord;
 use cells::memory::Memory;
 use cells::refusal::Refusal;
 use filters::filter::Filter;
+use rules::answer::Denial;
+use rules::answer::RefusalDenial;
+use rules::ring::Entry;
+use rules::ring::Status;
+use rules::table::CallKind;
+use rules::table::Phase;
+use rules::table::TaskRecord;
+use rules::verdict::Verdict;
 
 impl Engine {
     // The answer is the place, if cells were logged, and the number of filters compared.
-    pub fn commit<M: Memory, F: Filter>(&mut self, memory: &M, arrays: &mut Arrays<'_, '_, '_, '_, F, M::Cell>, task: u32) -> Result<(Option<u32>, u32), Denial>
+    pub fn commit<M: Memory, F: Filter>(
+        &mut self,
+        memory: &M,
+        arrays: &mut Arrays<'_, '_, '_, '_, F, M::Cell>,
+        task: u32,
+    ) -> Result<(Option<u32>, u32), Denial>
         ensures step { λ r. ⌜ Step F·Filter (view (now (self .entry)) (contents (now (memory .entry))) (now (arrays .entry))) (by task commit) r (view (now (self .exit)) (contents (now (memory .entry))) (now (arrays .exit))) ⌝ }
         ensures promise { λ r. ⌜ Kept F·Filter (view (now (self .entry)) (contents (now (memory .entry))) (now (arrays .entry))) (by task commit) r (view (now (self .exit)) (contents (now (memory .entry))) (now (arrays .exit))) ⌝ }
         ensures loans { λ _. ⌜ SameLoans (now (arrays .entry)) (now (arrays .exit)) ⌝ }
     {
-        let Arrays { ring, table, addresses, cells } = arrays;
+        let Arrays {
+            ring,
+            table,
+            addresses,
+            cells,
+        } = arrays;
         commit_task(self, memory, ring, table, addresses, cells, task)
     }
 }
@@ -48,7 +58,17 @@ fn commit_task<M: Memory, F: Filter>(
 ) -> Result<(Option<u32>, u32), Denial>
     ensures { λ r. ⌜ Step F·Filter (state (now (engine .entry)) (contents (now (memory .entry))) (now (ring .entry)) (now (table .entry)) (now (addresses .entry)) (now (cells .entry))) (by task commit) r (state (now (engine .exit)) (contents (now (memory .entry))) (now (ring .exit)) (now (table .exit)) (now (addresses .exit)) (now (cells .exit))) ⌝ }
 {
-    let record = admit(engine, memory, ring, table, addresses, cells, task, CallKind::Commit, None)?;
+    let record = admit(
+        engine,
+        memory,
+        ring,
+        table,
+        addresses,
+        cells,
+        task,
+        CallKind::Commit,
+        None,
+    )?;
     if record.logged == 0 {
         put(table, task as usize, TaskRecord::emptied());
         return Ok((None, 0));
@@ -58,8 +78,25 @@ fn commit_task<M: Memory, F: Filter>(
         Verdict::Passed { start, compared } => {
             engine.index = place;
             let slot = place as usize % ring.len();
-            put(ring, slot, Entry { stamp: place, filter: record.writes, status: Status::Writing });
-            put(table, task as usize, TaskRecord { phase: Phase::Committed, start, place, ..record });
+            put(
+                ring,
+                slot,
+                Entry {
+                    stamp: place,
+                    filter: record.writes,
+                    status: Status::Writing,
+                },
+            );
+            put(
+                table,
+                task as usize,
+                TaskRecord {
+                    phase: Phase::Committed,
+                    start,
+                    place,
+                    ..record
+                },
+            );
             Ok((Some(place), compared))
         }
         Verdict::Conflict { place, compared } => {

@@ -5,26 +5,39 @@ use super::Engine;
 use super::Settings;
 use crate::arrays::Arrays;
 use crate::lists::fill;
-use rules::ring::Entry;
-use rules::table::TaskRecord;
 use cells::memory::Memory;
 use cells::refusal::Refusal;
 use filters::filter::Filter;
+use rules::ring::Entry;
+use rules::table::TaskRecord;
 
 const LEAST_SLOTS: u32 = 2;
+
 const MOST_SLOTS: u32 = 1024;
+
 const MOST_TASKS: u32 = 64;
+
 const MOST_PAIRS: u32 = 256;
+
 const MOST_CELLS: usize = 65536;
 
 impl Engine {
     // Empties every slot and every record; memory and log arrays are not touched.
-    pub fn make<M: Memory, F: Filter>(settings: Settings, memory: &M, arrays: &mut Arrays<'_, '_, '_, '_, F, M::Cell>) -> Result<Engine, Refusal>
+    pub fn make<M: Memory, F: Filter>(
+        settings: Settings,
+        memory: &M,
+        arrays: &mut Arrays<'_, '_, '_, '_, F, M::Cell>,
+    ) -> Result<Engine, Refusal>
         ensures step { λ r. ⌜ MakeStep F·Filter (request settings (contents (now (memory .entry))) (now (arrays .entry))) r (λ e. view e (contents (now (memory .entry))) (now (arrays .exit))) (request settings (contents (now (memory .entry))) (now (arrays .exit))) ⌝ }
         ensures promise { λ r. ⌜ Begun F·Filter (contents (now (memory .entry))) r (λ e. view e (contents (now (memory .entry))) (now (arrays .exit))) ⌝ }
         ensures loans { λ _. ⌜ SameLoans (now (arrays .entry)) (now (arrays .exit)) ⌝ }
     {
-        let Arrays { ring, table, addresses, cells } = arrays;
+        let Arrays {
+            ring,
+            table,
+            addresses,
+            cells,
+        } = arrays;
         make_engine(settings, memory, ring, table, addresses, cells)
     }
 }
@@ -42,9 +55,21 @@ fn make_engine<M: Memory, F: Filter>(
     examine(settings, memory, ring, table, addresses, cells)?;
     fill(ring, Entry::vacant());
     fill(table, TaskRecord::emptied());
-    let Settings { slots, tasks, pairs, last } = settings;
+    let Settings {
+        slots,
+        tasks,
+        pairs,
+        last,
+    } = settings;
     let size = memory.size() as u32;
-    Ok(Engine { slots, tasks, pairs, last, size, index: 0 })
+    Ok(Engine {
+        slots,
+        tasks,
+        pairs,
+        last,
+        size,
+        index: 0,
+    })
 }
 
 // The refusals of a making, in their order.

@@ -8,21 +8,30 @@ use super::admit::fits;
 use super::admit::whole;
 use crate::arrays::Arrays;
 use crate::lists::item;
-use rules::ring::Entry;
-use rules::table::Phase;
-use rules::table::TaskRecord;
 use cells::memory::Memory;
 use cells::refusal::Refusal;
 use filters::filter::Filter;
+use rules::ring::Entry;
+use rules::table::Phase;
+use rules::table::TaskRecord;
 
 impl Engine {
     // What the unfinished writers owe together: for each one for every cell not yet written and one more.
-    pub fn outstanding<M: Memory, F: Filter>(&self, memory: &M, arrays: &mut Arrays<'_, '_, '_, '_, F, M::Cell>) -> Result<u32, Refusal>
+    pub fn outstanding<M: Memory, F: Filter>(
+        &self,
+        memory: &M,
+        arrays: &mut Arrays<'_, '_, '_, '_, F, M::Cell>,
+    ) -> Result<u32, Refusal>
         ensures step { λ r. ⌜ Step F·Filter (view (now (self .entry)) (contents (now (memory .entry))) (now (arrays .entry))) outstanding r (view (now (self .entry)) (contents (now (memory .entry))) (now (arrays .exit))) ⌝ }
         ensures promise { λ r. ⌜ Kept F·Filter (view (now (self .entry)) (contents (now (memory .entry))) (now (arrays .entry))) outstanding r (view (now (self .entry)) (contents (now (memory .entry))) (now (arrays .exit))) ⌝ }
         ensures loans { λ _. ⌜ SameLoans (now (arrays .entry)) (now (arrays .exit)) ⌝ }
     {
-        let Arrays { ring, table, addresses, cells } = arrays;
+        let Arrays {
+            ring,
+            table,
+            addresses,
+            cells,
+        } = arrays;
         count_owed(self, memory, ring, table, addresses, cells)
     }
 }

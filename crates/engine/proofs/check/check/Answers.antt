@@ -35,8 +35,7 @@ returns-then-meets g c = record {
 
 pub loop-place-again-in-Writing : need.loop-place-again-in-Writing
 loop-place-again-in-Writing g c =
-    let present = here g (need.at·loop-place-again-in-Writing g c .After-meets) in
-    (
+    let present = here g (need.at·loop-place-again-in-Writing g c .After-meets) in (
       omega arith,
       omega arith,
       omega arith,
@@ -46,8 +45,7 @@ loop-place-again-in-Writing g c =
 
 pub loop-place-again : need.loop-place-again
 loop-place-again g c =
-    let present = here g (need.at·loop-place-again g c .After-meets) in
-    (
+    let present = here g (need.at·loop-place-again g c .After-meets) in (
       omega arith,
       omega arith,
       omega arith,

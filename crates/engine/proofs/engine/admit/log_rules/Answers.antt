@@ -17,13 +17,13 @@ part-log-end g c =
 pub returns-then-address-engine : need.returns-then-address-engine
 returns-then-address-engine g c =
     λ rules.
-        let xs = c .args .addresses .now in
-        let b = c .log-base-base .result in
-        let n = b + c .args .record .now .logged - b in
-        let k = c .loop-address .address-index in
-        let within : k < n = omega (arith, length-take n (drop b xs)) in
-        let moved : getD xs (b + k) 0 ≡ getD xs (c .args .task * c .args .engine .now .pairs + k) 0 = ap (λ (x : ℕ). getD xs (x + k) 0) (c .log-base-base .ensures) in
-        omega (arith, part-at xs b n k 0 within, moved, rules .inside k (omega arith))
+    let xs = c .args .addresses .now in
+    let b = c .log-base-base .result in
+    let n = b + c .args .record .now .logged - b in
+    let k = c .loop-address .address-index in
+    let within : k < n = omega (arith, length-take n (drop b xs)) in
+    let moved : getD xs (b + k) 0 ≡ getD xs (c .args .task * c .args .engine .now .pairs + k) 0 = ap (λ (x : ℕ). getD xs (x + k) 0) (c .log-base-base .ensures) in
+    omega (arith, part-at xs b n k 0 within, moved, rules .inside k (omega arith))
 
 pub returns : need.returns
 returns g c =

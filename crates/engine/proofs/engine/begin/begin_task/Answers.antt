@@ -14,9 +14,6 @@ returns-in-Break-admit g c =
     let p = err-from-errBy (c .from-residual .result) (c .from-residual .ensures .1) in
     rw (p .1, p .2) (record { refuses = rejects (g .F·Filter) _ _ begin _ (c .in-Break-admit .ensures tt); after = refl })
 
-pub put-requires : need.put-requires
-put-requires g c κs = c .in-Continue-admit .ensures tt .there .within
-
 pub returns : need.returns
 returns g c =
     let admitted = c .in-Continue-admit .ensures tt in

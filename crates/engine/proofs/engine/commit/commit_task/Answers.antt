@@ -81,8 +81,7 @@ returns-in-Conflict g c =
     let fits = c .in-Continue-record .ensures tt .addressed .fits .ring in
     let r = c .in-Continue-record .record in
     let verdict = Conflict (c .in-Conflict .place) (c .in-Conflict .compared) in
-    let met = subst (λ (n : ℕ). Checks (g .F·Filter) n (c .args .ring .now) (r .reads) (c .args .engine .now .index) (r .start) verdict) fits (c .in-Conflict .ensures tt) in
-    (
+    let met = subst (λ (n : ℕ). Checks (g .F·Filter) n (c .args .ring .now) (r .reads) (c .args .engine .now .index) (r .start) verdict) fits (c .in-Conflict .ensures tt) in (
       checked g (need.at·returns-in-Conflict g c .After-check) verdict met,
       record { task = c .emptied-in-Conflict .result; emptied = c .emptied-in-Conflict .ensures; after = record-put s (c .args .task) (c .emptied-in-Conflict .result) (c .put-in-Conflict .last .items) (c .put-in-Conflict .ensures) },
     )
@@ -93,8 +92,7 @@ returns-in-Overrun g c =
     let fits = c .in-Continue-record .ensures tt .addressed .fits .ring in
     let r = c .in-Continue-record .record in
     let verdict = Overrun (c .in-Overrun .compared) in
-    let lost = subst (λ (n : ℕ). Checks (g .F·Filter) n (c .args .ring .now) (r .reads) (c .args .engine .now .index) (r .start) verdict) fits (c .in-Overrun .ensures tt) in
-    (
+    let lost = subst (λ (n : ℕ). Checks (g .F·Filter) n (c .args .ring .now) (r .reads) (c .args .engine .now .index) (r .start) verdict) fits (c .in-Overrun .ensures tt) in (
       checked g (need.at·returns-in-Overrun g c .After-check) verdict lost,
       record { task = c .emptied-in-Overrun .result; emptied = c .emptied-in-Overrun .ensures; after = record-put s (c .args .task) (c .emptied-in-Overrun .result) (c .put-in-Overrun .last .items) (c .put-in-Overrun .ensures) },
     )

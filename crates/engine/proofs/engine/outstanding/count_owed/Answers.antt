@@ -33,11 +33,11 @@ loop-task-again g c =
     let whole = at-below-more rules (c .loop-task .inv .2) there (c .if-not-whole .ensures tt) in
     let summed = owes-more (c .args .table .now) t r there in
     elim (c .match-record .came) [
-      in-Committed w ↦
-        let owing = owes-committed r (w .in-Committed .is) in
-        let kept = subst (PhaseRules (engine .pairs) (engine .size) (engine .index) (engine .slots) (c .args .ring .now) (c .args .addresses .now) (t * engine .pairs) r) (w .in-Committed .is) (c .if-not-whole .ensures tt) in
-        (omega (arith, w .owed-is, owing, summed), omega (arith, w .owed-is, kept .log .logged, engine .«log_limits» .1), whole)
-    | in-Idle w ↦ let owing = owes-idle r (w .in-Idle .is) in (omega (arith, w .owed-is, owing, summed), omega (arith, w .owed-is), whole)
+      | in-Committed w ↦
+          let owing = owes-committed r (w .in-Committed .is) in
+          let kept = subst (PhaseRules (engine .pairs) (engine .size) (engine .index) (engine .slots) (c .args .ring .now) (c .args .addresses .now) (t * engine .pairs) r) (w .in-Committed .is) (c .if-not-whole .ensures tt) in
+          (omega (arith, w .owed-is, owing, summed), omega (arith, w .owed-is, kept .log .logged, engine .«log_limits» .1), whole)
+      | in-Idle w ↦ let owing = owes-idle r (w .in-Idle .is) in (omega (arith, w .owed-is, owing, summed), omega (arith, w .owed-is), whole)
     ]
 
 pub returns : need.returns

@@ -90,8 +90,7 @@ returns-in-Conflict g c =
     let s = state (c .args .engine .now) (g .M·Memory .contents (c .args .memory .now)) (c .args .ring .now) (c .args .table .now) (c .args .addresses .now) (c .args .cells .now) in
     let fits = c .in-Continue-record .ensures tt .addressed .fits .ring in
     let verdict = Conflict (c .in-Conflict .place) (c .in-Conflict .compared) in
-    let met = subst (λ (n : ℕ). Checks (g .F·Filter) n (c .args .ring .now) (c .add-reads .result) (c .args .engine .now .index) (c .in-Continue-record .record .start) verdict) fits (c .in-Conflict .ensures tt) in
-    (
+    let met = subst (λ (n : ℕ). Checks (g .F·Filter) n (c .args .ring .now) (c .add-reads .result) (c .args .engine .now .index) (c .in-Continue-record .record .start) verdict) fits (c .in-Conflict .ensures tt) in (
       checked g (need.at·returns-in-Conflict g c .After-check) verdict met,
       record { task = c .emptied .result; emptied = c .emptied .ensures; after = record-put s (c .args .task) (c .emptied .result) (c .put-in-Conflict .last .items) (c .put-in-Conflict .ensures) },
     )
@@ -101,8 +100,7 @@ returns-in-Overrun g c =
     let s = state (c .args .engine .now) (g .M·Memory .contents (c .args .memory .now)) (c .args .ring .now) (c .args .table .now) (c .args .addresses .now) (c .args .cells .now) in
     let fits = c .in-Continue-record .ensures tt .addressed .fits .ring in
     let verdict = Overrun (c .in-Overrun .compared) in
-    let lost = subst (λ (n : ℕ). Checks (g .F·Filter) n (c .args .ring .now) (c .add-reads .result) (c .args .engine .now .index) (c .in-Continue-record .record .start) verdict) fits (c .in-Overrun .ensures tt) in
-    (
+    let lost = subst (λ (n : ℕ). Checks (g .F·Filter) n (c .args .ring .now) (c .add-reads .result) (c .args .engine .now .index) (c .in-Continue-record .record .start) verdict) fits (c .in-Overrun .ensures tt) in (
       checked g (need.at·returns-in-Overrun g c .After-check) verdict lost,
       record { task = c .emptied-in-Overrun .result; emptied = c .emptied-in-Overrun .ensures; after = record-put s (c .args .task) (c .emptied-in-Overrun .result) (c .put-in-Overrun .last .items) (c .put-in-Overrun .ensures) },
     )
