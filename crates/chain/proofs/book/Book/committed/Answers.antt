@@ -1,0 +1,11 @@
+use borrow.Author.Needs.{needs}
+use native.Mathlib.Omega.{arith}
+use Rattle.std.proofs.shelf.Lists.{take-all}
+use Rattle.std.proofs.shelf.Sums.{sumBy-more}
+use Rattle.chain.proofs.book.Book.committed.Needs as need
+
+pub loop-page-again : need.loop-page-again
+loop-page-again c = (grind (arith, sumBy-more), search needs)
+
+pub returns : need.returns
+returns c = grind (arith, take-all)
