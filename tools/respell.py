@@ -27,7 +27,7 @@ CAMEL = re.compile(r"(?<=[a-z0-9])(?=[A-Z])")
 
 
 def snake(word):
-    if not re.match(r"[a-z]", word) or not re.search(r"[a-z][A-Z]", word):
+    if "→" in word or not re.match(r"[a-z]", word) or not re.search(r"[a-z][A-Z]", word):
         return word
     return CAMEL.sub("_", word).lower()
 

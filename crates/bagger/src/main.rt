@@ -1,4 +1,6 @@
 // Two stories of a bagging machine, played on held transactions: a schedule says which task moves next and what is to come of it.
+#![tactic(auto)]
+
 use crate::fault::Fault;
 use crate::mixed_pair::UNKNOWN;
 use crate::story::{LOGS, SLOTS, TASKS, play};

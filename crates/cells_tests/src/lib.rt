@@ -1,4 +1,6 @@
 // What the memories leave in the arrays that they are lent.
+#![tactic(auto)]
+
 #[cfg(test)]
 mod tests {
     use cells::memory::Memory;

@@ -1,4 +1,6 @@
 // Plays a chain of calls of five tasks over twelve cells, and checks the main promise after each call.
+#![tactic(auto)]
+
 use crate::answer::Answer;
 use crate::book::{Book, CELLS};
 use crate::fault::Fault;

@@ -1,9 +1,9 @@
 -- Laws of the 32 words of a large filter: what marking an address does, and when two filters share a bit.
-use Rattle.std.specs.Prelude.{◌≡◌, ℕ, ◌+◌, ◌*◌, ◌^◌, ◌<◌, true, false, List, length, set, replicate, slice_index, slice_set}
+use Rattle.std.specs.Prelude.{◌≡◌, ℕ, ◌+◌, ◌*◌, ◌^◌, ◌<◌, true, false, List, length, replicate, slice_index, slice_set}
 use Rattle.std.proofs.Common.{⊎_elim, sym, ap, subst, subst₂, ◌∙◌, arith}
 use Rattle.std.proofs.lemmas.List.{get_or-set_same, get_or-set_other, get_or-replicate}
 use Rattle.std.proofs.lemmas.Bool.{cases_eq}
-use Rattle.filters.specs.Bits.{Bit, with_bit, share}
+use Rattle.filters.specs.Bits.{Bit, with_bit}
 use Rattle.filters.specs.Words.{Narrow, word_of, bit_of, Marked, mark, share_at, share_word}
 use Rattle.filters.specs.BitLaws.{set_sets, set_keeps, zero_none, none_zero, bit_shared, zero_apart, share_comm}
 use Rattle.filters.specs.SomeLaws.{some_found, none_found, some_like}

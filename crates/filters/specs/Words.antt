@@ -1,5 +1,5 @@
 -- The 1,024 bits of a large filter, as 32 words of 32 bits.
-use Rattle.std.specs.Prelude.{ℕ, ◌/◌, ◌%◌, ◌^◌, ◌<◌, Bool, List, set, slice_index, slice_set}
+use Rattle.std.specs.Prelude.{ℕ, ◌/◌, ◌%◌, ◌^◌, ◌<◌, Bool, List, slice_index, slice_set}
 use Rattle.filters.specs.Bits.{Bit, with_bit, share}
 use Rattle.filters.specs.Some.{some_below}
 

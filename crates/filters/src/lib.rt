@@ -1,4 +1,6 @@
 // The filters: what a filter is, and the three kinds.
+#![tactic(auto)]
+
 pub mod filter;
 pub mod large;
 pub mod short_list;

@@ -1,6 +1,6 @@
 -- The small filter leaves nothing open: its new value and its adding are functions of its bits.
 use Rattle.std.specs.Prelude.{◌≡◌, ℕ, ◌%◌, ◌^◌, ◌<◌}
-use mathlib.Core.HLevel.{is_prop→path_p}
+use mathlib.Core.HLevel.{is_prop→PathP}
 use Rattle.std.proofs.Math.Bridge.{le_prop}
 use Rattle.std.proofs.Common.{arith, lit<}
 use Rattle.std.proofs.lemmas.Nat.{pow_below, or_lt}
@@ -11,7 +11,7 @@ use Rattle.forced.specs.Play.{Exact}
 
 -- Two small filters with the same bits are one, since the bound on the bits is a proposition.
 pub small_one : (f g : Small) → f.bits ≡ g.bits → f ≡ g
-small_one f g e = λ i. record { bits = e i; narrow = is_prop→path_p (λ j. e j < 2 ^ 32) (λ j. le_prop) f.narrow g.narrow i }
+small_one f g e = λ i. record { bits = e i; narrow = is_prop→PathP (λ j. e j < 2 ^ 32) (λ j. le_prop) f.narrow g.narrow i }
 
 -- No bit is set.
 abbrev pub empty_bits : Small

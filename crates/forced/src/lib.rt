@@ -1,4 +1,6 @@
 // The answers of calls are forced by the rules, where the filter leaves nothing open.
+#![tactic(auto)]
+
 ghost use Rattle.forced.specs.Determined.{Determined};
 
 use filters::filter::Filter;

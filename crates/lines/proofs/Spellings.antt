@@ -1,7 +1,7 @@
 -- A spelling determines its command.
 use Rattle.std.proofs.Common.{◌≡◌, ℕ, ◌≤◌, cond, eqb, List, [], ◌∷◌, ◌++◌, map, length, get_or, drop, sym, refl, ap, ◌∙◌, arith}
 use Rattle.lines.specs.Decimal.{decimal}
-use Rattle.lines.specs.Grammar.{most, Small, letter, numbers, spelled, Allowed}
+use Rattle.lines.specs.Grammar.{Small, letter, numbers, spelled, Allowed}
 use Rattle.lines.specs.Line.{spaced, line_of}
 use Rattle.lines.specs.Reading.{Means, LineAt, CommandAt, NoLine, NoCommand}
 use Rattle.lines.specs.declared.command.Area.TheVariants.{Words, Tags}

@@ -1,4 +1,6 @@
 // The lines of a schedule text, read as commands, and the lines of its report, printed.
+#![tactic(auto)]
+
 pub mod command;
 mod fields;
 mod line;

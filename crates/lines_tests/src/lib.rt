@@ -1,4 +1,6 @@
 // Lines as they are read and printed.
+#![tactic(auto)]
+
 #[cfg(test)]
 mod tests {
     use lines::command::{Area, Command, Expected, Next};

@@ -1,4 +1,6 @@
 // The main promise: after any call of any chain its three statements hold, over any filter.
+#![tactic(auto)]
+
 ghost use Rattle.rules.specs.Book.{Book};
 ghost use Rattle.rules.specs.Promise.{Chain, Promise};
 ghost use Rattle.rules.specs.State.{State};

@@ -1,15 +1,15 @@
 -- From what the checks found to the refusal, or to acceptance: checks go by number.
-use Rattle.std.proofs.Common.{◌≡◌, ℕ, ◌+◌, ◌-◌, ◌<◌, ◌≤◌, true, false, List, Some, None, Ok, Err, sym, ap, ◌∙◌, subst, arith, lit<}
+use Rattle.std.proofs.Common.{◌≡◌, ℕ, ◌+◌, ◌-◌, ◌<◌, false, None, Err, ap, ◌∙◌, subst, arith, lit<}
 use Rattle.std.proofs.lemmas.Bool.{both_ways}
 use Rattle.cells.specs.declared.refusal.Refusal.{Refusal}
 use Rattle.cells.specs.declared.refusal.Refusal.TheVariants.{RingLength, TaskCount, LogLength, LastPlace, MemorySize, ArrayLength, TaskNumber, Address, BrokenLine, OutputFull, Torn, PhaseForbids, LogFull, PlacesSpent, RingFull, MustWait}
 use Rattle.cells.specs.Refusals.{number}
 use Rattle.filters.specs.declared.filter.Filter.{Ghosts}
 use Rattle.rules.specs.declared.table.TaskRecord.{TaskRecord}
-use Rattle.rules.specs.Admission.{Addressed, Admitted, Rejected, NextPlace}
+use Rattle.rules.specs.Admission.{Admitted, Rejected, NextPlace}
 use Rattle.rules.specs.declared.table.CallKind.TheVariants.{Commit, Work}
-use Rattle.rules.specs.Calls.{Act, write, commit, work, Call, by, kind, named, Inside}
-use Rattle.rules.specs.Faults.{Meets, Of, Waits, to_write, to_finish, Full, Commits, Waiting, Fault, Clear, Refuses, Accepts}
+use Rattle.rules.specs.Calls.{Act, write, commit, work, by, kind, named, Inside}
+use Rattle.rules.specs.Faults.{Meets, Of, Waits, to_write, to_finish, Full, Commits, Waiting, Clear, Refuses, Accepts}
 use Rattle.rules.specs.Lists.{At}
 use Rattle.rules.specs.Logs.{First}
 use Rattle.rules.specs.Places.{Pending}

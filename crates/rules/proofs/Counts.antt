@@ -1,15 +1,13 @@
 -- What the asking for the outstanding count finds.
-use Rattle.std.proofs.Common.{◌≡◌, ℕ, ◌+◌, ◌-◌, ◌*◌, ◌<◌, ◌≤◌, ◌⊎◌, List, length, get_or, take, sum_by, sym, ap, ◌∙◌, inl, inr, arith}
+use Rattle.std.proofs.Common.{◌≡◌, ℕ, ◌+◌, ◌-◌, ◌⊎◌, List, take, sum_by, sym, ap, ◌∙◌, inl, inr, arith}
 use Rattle.std.proofs.lemmas.List.Sums.{sum_by_more}
-use Rattle.cells.specs.declared.refusal.Refusal.{Refusal}
 use Rattle.cells.specs.declared.refusal.Refusal.TheVariants.{RingLength, TaskCount, LogLength, LastPlace, MemorySize, ArrayLength, TaskNumber, Address, BrokenLine, OutputFull, Torn, PhaseForbids, LogFull, PlacesSpent, RingFull, MustWait}
-use Rattle.cells.specs.Refusals.{number}
 use Rattle.filters.specs.declared.filter.Filter.{Ghosts}
 use Rattle.rules.specs.declared.table.Phase.{Phase}
 use Rattle.rules.specs.declared.table.Phase.TheVariants.{Idle, Open, Committed}
 use Rattle.rules.specs.declared.table.TaskRecord.{TaskRecord}
 use Rattle.rules.specs.Calls.{outstanding}
-use Rattle.rules.specs.Faults.{Of, Fault, Refuses, Accepts, Clear}
+use Rattle.rules.specs.Faults.{Of, Refuses, Accepts, Clear}
 use Rattle.rules.specs.Lists.{At}
 use Rattle.rules.specs.State.{State, Fits}
 use Rattle.rules.specs.Steps.{owes_in, owes}

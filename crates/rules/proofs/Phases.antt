@@ -1,5 +1,5 @@
 -- What a whole record in a known phase keeps.
-use Rattle.std.proofs.Common.{◌≡◌, ℕ, ◌*◌, true, false, List}
+use Rattle.std.proofs.Common.{◌≡◌, ℕ, true, false, List}
 use Rattle.std.proofs.lemmas.Bool.{both_ways}
 use Rattle.rules.specs.declared.ring.Entry.{Entry}
 use Rattle.rules.specs.declared.table.CallKind.{CallKind}

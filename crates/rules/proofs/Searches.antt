@@ -1,8 +1,7 @@
 -- What the search finds in a part of the log arrays, it finds in the arrays.
-use Rattle.std.proofs.Common.{◌≡◌, ℕ, ◌+◌, ◌-◌, ◌<◌, ◌≤◌, List, length, get_or, take, drop, Some, None, Option, sym, ap, ◌∙◌, subst, zero-add, arith}
-use Rattle.std.proofs.lemmas.List.{length-take, length-drop, get_or_default}
-use Rattle.rules.specs.Lists.{At}
-use Rattle.rules.specs.Logs.{Lacks, First, Searched}
+use Rattle.std.proofs.Common.{◌≡◌, ℕ, ◌+◌, ◌<◌, ◌≤◌, List, length, get_or, take, drop, Some, None, Option, sym, ap, ◌∙◌, subst, zero-add, arith}
+use Rattle.std.proofs.lemmas.List.{length-take, length-drop}
+use Rattle.rules.specs.Logs.{Lacks, Searched}
 use Rattle.rules.proofs.Rooms.{part_at}
 
 module _ (xs : List ℕ) (b n m : ℕ) (same : n ≡ m) (room : b + m ≤ length xs) where

@@ -1,9 +1,8 @@
 -- One step of the check's walk down the ring.
-use Rattle.std.proofs.Common.{◌≡◌, ℕ, ◌+◌, ◌-◌, ◌%◌, ◌<◌, ◌≤◌, Bool, true, false, ◌⊎◌, List, MatchBool, sym, ap, ◌∙◌, subst, inl, inr, ⊎_elim, arith}
+use Rattle.std.proofs.Common.{◌≡◌, ℕ, ◌+◌, ◌-◌, ◌%◌, ◌<◌, ◌≤◌, Bool, true, false, List, MatchBool, sym, ap, ◌∙◌, subst, inr, ⊎_elim, arith}
 use Rattle.std.proofs.lemmas.Bool.{both_ways, cases_eq}
 use Rattle.filters.specs.declared.filter.Filter.{Ghosts}
 use Rattle.rules.specs.declared.ring.Entry.{Entry}
-use Rattle.rules.specs.declared.ring.Status.{Status}
 use Rattle.rules.specs.declared.ring.Status.TheVariants.{Writing, Complete}
 use Rattle.rules.specs.Check.{Advanced, Asked, AllAsked}
 use Rattle.rules.specs.Faults.{Meets}

@@ -1,5 +1,5 @@
 -- The book: what took place, kept from calls and answers alone.
-use Rattle.std.specs.Prelude.{◌≡◌, ℕ, zero, suc, ◌+◌, ◌-◌, ◌<◌, ◌≤◌, Bool, true, false, cond, List, [], ◌∷◌, ◌++◌, length, Some, None, Ok, Err, sum_by, Option, Result, ◌==◌, slice_set}
+use Rattle.std.specs.Prelude.{ℕ, zero, suc, ◌+◌, ◌-◌, Bool, true, false, cond, List, [], ◌∷◌, length, Some, None, Ok, Err, sum_by, Option, ◌==◌, slice_set}
 use Rattle.rules.specs.declared.answer.Worked.{Worked}
 use Rattle.rules.specs.declared.answer.Worked.TheVariants.{Left, Done}
 use Rattle.rules.specs.Calls.{Act, begin, read, write, commit, work, quit, Call, by, outstanding, ActReply, Reply}

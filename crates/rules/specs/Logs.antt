@@ -1,5 +1,5 @@
 -- A task's log: addresses and cells in parallel, its pairs from task × pairs on.
-use Rattle.std.specs.Prelude.{◌≡◌, ℕ, ◌+◌, ◌<◌, ◌≤◌, List, length, Some, None, Option, ◌≢◌, slice_index, slice_index_or}
+use Rattle.std.specs.Prelude.{◌≡◌, ℕ, ◌+◌, ◌<◌, List, Some, None, Option, ◌≢◌, slice_index, slice_index_or}
 use Rattle.rules.specs.Lists.{At}
 
 -- None of the first n addresses from `base` on is a.

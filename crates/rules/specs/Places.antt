@@ -1,7 +1,7 @@
 -- Places on the ring, and the place that a transaction begins at.
 use Rattle.std.specs.Prelude.{◌≡◌, ℕ, ◌%◌, ◌<◌, ◌≤◌, List}
 use Rattle.rules.specs.declared.ring.Entry.{Entry}
-use Rattle.rules.specs.declared.ring.Status.TheVariants.{Writing, Complete}
+use Rattle.rules.specs.declared.ring.Status.TheVariants.{Writing}
 use Rattle.rules.specs.Lists.{At}
 
 module _ {F : Type 0} where

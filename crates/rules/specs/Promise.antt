@@ -1,10 +1,10 @@
 -- The main promise: any chain of calls, and the three statements that hold after each of its calls.
-use Rattle.std.specs.Prelude.{◌≡◌, ℕ, ◌+◌, ◌-◌, ◌<◌, ◌≤◌, List, [], ◌∷◌, length, Ok, Err, Result, ◌≢◌, slice_index_or}
+use Rattle.std.specs.Prelude.{◌≡◌, ℕ, ◌+◌, ◌-◌, ◌<◌, ◌≤◌, List, Ok, Result, ◌≢◌, slice_index_or}
 use Rattle.cells.specs.declared.refusal.Refusal.{Refusal}
 use Rattle.filters.specs.declared.filter.Filter.{Ghosts}
 use Rattle.rules.specs.declared.answer.Worked.{Worked}
-use Rattle.rules.specs.Book.{Standing, running, writing, finished, Page, Book, opening, entered, outstanding_of, laid, place_of}
-use Rattle.rules.specs.Calls.{Act, work, Call, by, outstanding, Reply}
+use Rattle.rules.specs.Book.{writing, Page, Book, opening, entered, outstanding_of, laid, place_of}
+use Rattle.rules.specs.Calls.{work, Call, by, outstanding, Reply}
 use Rattle.rules.specs.Faults.{Accepts}
 use Rattle.rules.specs.Lists.{At}
 use Rattle.rules.specs.Making.{Makes}

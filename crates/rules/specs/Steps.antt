@@ -1,5 +1,5 @@
 -- What each call answers and changes.
-use Rattle.std.specs.Prelude.{◌≡◌, ℕ, ◌+◌, ◌-◌, ◌<◌, ◌≤◌, ◌⊎◌, List, Some, None, Ok, Err, sum_by, Option, Result, slice_index}
+use Rattle.std.specs.Prelude.{◌≡◌, ℕ, ◌+◌, ◌-◌, ◌<◌, ◌⊎◌, Some, None, Ok, Err, sum_by, Option, Result, slice_index}
 use Rattle.cells.specs.declared.refusal.Refusal.{Refusal}
 use Rattle.filters.specs.declared.filter.Filter.{Ghosts}
 use Rattle.rules.specs.declared.answer.Denial.{Denial}

@@ -1,4 +1,6 @@
 // The schedule runner: plays the lines of a text over the engine and prints one line for each.
+#![tactic(auto)]
+
 pub mod face;
 mod play;
 pub mod run;

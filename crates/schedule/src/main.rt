@@ -1,4 +1,6 @@
 // The schedule program: plays the text on standard input and writes what is printed to standard output.
+#![tactic(auto)]
+
 use runner::run::dohvalin_run;
 use std::io;
 use std::io::{Read, Write};

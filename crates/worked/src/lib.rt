@@ -1,4 +1,6 @@
 // The worked runs of the rulebook: what the rules force each call of a run to answer.
+#![tactic(auto)]
+
 ghost use Rattle.worked.specs.Statement.{WorkedRuns};
 
 #[cfg(test)]

@@ -19,16 +19,16 @@ loop-count-init c = (
   omega (arith, c.if-at-text.false),
 )
 
-pub returns-in-err-numeral : goal.returns-in-err-numeral
-returns-in-err-numeral c =
-    rw c.from-residual.ensures
-    (no_line_number c.args.text.now c.args.at c.loop-count.end c.loop-count.count c.loop-count.invariant.1 c.if-space.ensures c.in-err-numeral.ensures)
+pub returns-in_err-numeral : goal.returns-in_err-numeral
+returns-in_err-numeral c =
+    rw c.from_residual.ensures
+    (no_line_number c.args.text.now c.args.at c.loop-count.end c.loop-count.count c.loop-count.invariant.1 c.if-space.ensures c.in_err-numeral.ensures)
 
 pub loop-count-preserved : goal.loop-count-preserved
 loop-count-preserved c =
-    let is = c.in-ok-numeral.ensures in
-    let v = c.in-ok-numeral.numeral.value in
-    let past = c.in-ok-numeral.numeral.end in (
+    let is = c.in_ok-numeral.ensures in
+    let v = c.in_ok-numeral.numeral.value in
+    let past = c.in_ok-numeral.numeral.end in (
       so_far_more c.args.text.now c.args.at c.loop-count.end c.loop-count.numbers c.loop-count.count v past c.loop-count.invariant.0 c.if-space.ensures is (omega (arith, c.loop-count-test.true, c.loop-count.invariant.3)),
       goes_more c.args.text.now c.args.at c.loop-count.end c.loop-count.count c.loop-count.invariant.1 v past c.if-space.ensures is,
       omega (arith, c.loop-count-test.true),

@@ -5,4 +5,4 @@ use Rattle.lines.proofs.Listed.{listed}
 use Rattle.lines.proofs.reader.alone.Goals as goal
 
 pub returns-in-len1 : goal.returns-in-len1
-returns-in-len1 c area = subst (λ ns. Meant (After area) c.args.letter ns c.of-task.result) (listed 1 c.args.numbers.now (search rules)) (c.of-task.ensures area)
+returns-in-len1 c area = subst (λ ns. Meant (After area) c.args.letter ns c.of_task.result) (listed 1 c.args.numbers.now (search rules)) (c.of_task.ensures area)

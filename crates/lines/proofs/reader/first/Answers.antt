@@ -8,7 +8,7 @@ pub returns : goal.returns
 returns c =
     let limits = c.if-not-within.ensures in
     record {
-      allowed = (limits.0, limits.1, limits.2, omega (arith, c.type-inv.numbers 3), limits.3);
+      allowed = (limits.0, limits.1, limits.2, omega (arith, c.type_inv.numbers 3), limits.3);
       begins =
           elim c.match-letter.branch [
             | in-m w ↦ ap area_letter w.area-is ∙ sym w.in-m.is

@@ -14,6 +14,6 @@ returns c =
       behind = refl;
       within = c.if-not-fits.ensures;
       text =
-          ap (λ ys. take at before ++ (ys ++ post_of at ((at + n) - at) before)) c.copy-from-slice.ensures.after
+          ap (λ ys. take at before ++ (ys ++ post_of at ((at + n) - at) before)) c.copy_from_slice.ensures.after
           ∙ ap (λ zs. take at before ++ (bytes ++ zs)) (drop-drop ((at + n) - at) at before ∙ ap (λ m. drop m before) whole);
     }

@@ -13,6 +13,6 @@ returns c =
     let fits : cell.value < 2 ^ 32 = omega arith in
     record {
       writes = (omega arith, ap tags c.store.ensures ∙ tags-stored bytes address cell below fits);
-      rest-kept = ap leftover c.store.ensures ∙ leftover-stored bytes address cell below fits;
-      lender-kept = refl;
+      rest_kept = ap leftover c.store.ensures ∙ leftover-stored bytes address cell below fits;
+      lender_kept = refl;
     }

@@ -3,5 +3,5 @@ use Rattle.std.proofs.Common.{refl, arith}
 use Rattle.filters.specs.WordLaws.{replicate-narrow}
 use Rattle.filters.proofs.large.LargeFilter.new.Goals as goal
 
-pub invariant-of-result : goal.invariant-of-result
-invariant-of-result c = (refl, (replicate-narrow _ (omega arith), tt))
+pub invariant_of-result : goal.invariant_of-result
+invariant_of-result c = record { full = refl; narrow = replicate-narrow _ (omega arith) }

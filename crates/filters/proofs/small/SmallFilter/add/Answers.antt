@@ -4,5 +4,5 @@ use lib.Bits.{or_lt}
 use Rattle.std.proofs.lemmas.Nat.{mod_below}
 use Rattle.filters.proofs.small.SmallFilter.add.Goals as goal
 
-pub invariant-of-result : goal.invariant-of-result
-invariant-of-result c = (or_lt 32 _ _ c.args.self.narrow (mod_below _ (2 ^ 32) (omega arith)), tt)
+pub invariant_of-result : goal.invariant_of-result
+invariant_of-result c = record { narrow = or_lt 32 _ _ c.args.self.narrow (mod_below _ (2 ^ 32) (omega arith)) }
