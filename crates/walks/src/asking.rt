@@ -6,7 +6,7 @@ use rules::ring::Entry;
 
 // Whether the entry's filter meets the other one.
 pub(crate) fn meets<F: Filter>(entry: &Entry<F>, other: &F) -> bool
-    ensures { result ≡ meeting entry.now.filter other.now }
+    ensures { result ≡ F.meeting entry.now.filter other.now }
 {
     entry.filter.meets(other)
 }
