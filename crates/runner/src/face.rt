@@ -24,7 +24,7 @@ pub trait Face: Copy {
         ensures { result ≡ shown task self compared };
 
     // Such a line has at most three numbers besides the task's, of at most ten digits each.
-    ghost room: { (task : ℕ) (cell : Self) (compared : ℕ) → room (shown task cell compared) ≤ 36 + length (decimal task) };
+    ghost room_bound: { (task : ℕ) (cell : Self) (compared : ℕ) → room (shown task cell compared) ≤ 36 + length (decimal task) };
 }
 
 // A word has no quality.
@@ -33,7 +33,7 @@ impl Face for u32 {
 
     ghost shown = { λ task cell compared. ReadWord task cell compared };
 
-    ghost room = { Prim.search rules };
+    ghost room_bound = { Prim.search rules };
 
     fn make(value: u32, quality: u8) -> u32 {
         value
@@ -53,7 +53,7 @@ impl Face for Tag {
 
     ghost shown = { λ task cell compared. ReadTag task cell.value cell.quality compared };
 
-    ghost room = { Prim.search rules };
+    ghost room_bound = { Prim.search rules };
 
     fn make(value: u32, quality: u8) -> Tag {
         Tag { quality, value }

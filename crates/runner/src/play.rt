@@ -53,7 +53,7 @@ fn play_line<C: Face, M: Memory<Cell = C>, F: Filter>(
     at: usize,
 ) -> Turn
     requires { at ≤ 65536 }
-    ensures turned { Turned F.Filter C.Face.made C.Face.shown area line at (view engine.old (contents memory.old) arrays.old) (drop reader.old.at reader.old.text.now) output.old result (view engine.new (contents memory.new) arrays.new) (drop reader.new.at reader.new.text.now) output.new }
+    ensures turned { Turned F.Filter C.Face.made C.Face.shown area line at (view engine.old (M.contents memory.old) arrays.old) (drop reader.old.at reader.old.text.now) output.old result (view engine.new (M.contents memory.new) arrays.new) (drop reader.new.at reader.new.text.now) output.new }
     ensures text { reader.new.text.now ≡ reader.old.text.now }
     ensures loans { SameLoans arrays.old arrays.new }
 {
@@ -81,7 +81,7 @@ pub(crate) fn play<C: Face, M: Memory<Cell = C>, F: Filter>(
     written: usize,
 ) -> u64
     requires { written + 7 * length (drop reader.old.at reader.old.text.now) ≤ 65536 }
-    ensures plays { Plays F.Filter C.Face.made C.Face.shown area (view engine.old (contents memory.old) arrays.old) 2 (drop reader.old.at reader.old.text.now) (from output.old written) output.new result }
+    ensures plays { Plays F.Filter C.Face.made C.Face.shown area (view engine.old (M.contents memory.old) arrays.old) 2 (drop reader.old.at reader.old.text.now) (from output.old written) output.new result }
     ensures roomy { Roomy written (drop reader.old.at reader.old.text.now) output.old result }
 {
     let mut at = written;

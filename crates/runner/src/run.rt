@@ -49,7 +49,7 @@ fn run_over<C: Face, M: Memory<Cell = C>>(
     output: &mut [u8],
 ) -> u64
     requires { length (drop reader.old.at reader.old.text.now) ≤ 8191 }
-    ensures run { Over small C.Face.made C.Face.shown area (asked settings (contents memory.old) ring.old table.old addresses.old cells.old) (drop reader.old.at reader.old.text.now) (from output.old 0) output.new result }
+    ensures run { Over small C.Face.made C.Face.shown area (asked settings (M.contents memory.old) ring.old table.old addresses.old cells.old) (drop reader.old.at reader.old.text.now) (from output.old 0) output.new result }
     ensures whole { 65536 ≤ length output.old → result % 16 ≡ 0 }
 {
     let mut arrays = Arrays {
@@ -74,7 +74,7 @@ fn play_on<C: Face, M: Memory<Cell = C>>(
     output: &mut [u8],
 ) -> u64
     requires { length (drop reader.old.at reader.old.text.now) ≤ 8191 }
-    ensures run { MadeRun small C.Face.made C.Face.shown area (view engine (contents memory.old) arrays.old) (drop reader.old.at reader.old.text.now) (from output.old 0) output.new result }
+    ensures run { MadeRun small C.Face.made C.Face.shown area (view engine (M.contents memory.old) arrays.old) (drop reader.old.at reader.old.text.now) (from output.old 0) output.new result }
     ensures whole { 65536 ≤ length output.old → result % 16 ≡ 0 }
 {
     let mut engine = engine;

@@ -68,7 +68,7 @@ pub(crate) fn turn<C: Face, M: Memory<Cell = C>, F: Filter>(
     command: Command,
 ) -> Report
     requires { MayFollow area command }
-    ensures played { Played F.Filter C.Face.made C.Face.shown (view engine.old (contents memory.old) arrays.old) command result (view engine.new (contents memory.new) arrays.new) }
+    ensures played { Played F.Filter C.Face.made C.Face.shown (view engine.old (M.contents memory.old) arrays.old) command result (view engine.new (M.contents memory.new) arrays.new) }
     ensures loans { SameLoans arrays.old arrays.new }
 {
     match command {

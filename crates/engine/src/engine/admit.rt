@@ -23,7 +23,7 @@ pub(crate) fn fits<M: Memory, F: Filter>(
     addresses: &[u32],
     cells: &[M::Cell],
 ) -> bool
-    ensures { MatchBool result (Fits (state engine.now (contents memory.now) ring.now table.now addresses.now cells.now)) (Fits (state engine.now (contents memory.now) ring.now table.now addresses.now cells.now) → ⊥) }
+    ensures { MatchBool result (Fits (state engine.now (M.contents memory.now) ring.now table.now addresses.now cells.now)) (Fits (state engine.now (M.contents memory.now) ring.now table.now addresses.now cells.now) → ⊥) }
 {
     let logs = engine.tasks as usize * engine.pairs as usize;
     ring.len() == engine.slots as usize
@@ -44,7 +44,7 @@ pub(crate) fn addressed<M: Memory, F: Filter>(
     task: u32,
     address: Option<u32>,
 ) -> Result<(), Refusal>
-    ensures { Addresses (state engine.now (contents memory.now) ring.now table.now addresses.now cells.now) task address result }
+    ensures { Addresses (state engine.now (M.contents memory.now) ring.now table.now addresses.now cells.now) task address result }
 {
     if !fits(engine, memory, ring, table, addresses, cells) {
         return Err(Refusal::ArrayLength);
@@ -131,7 +131,7 @@ pub(crate) fn admit<M: Memory, F: Filter>(
     call: CallKind,
     address: Option<u32>,
 ) -> Result<TaskRecord<F>, Refusal>
-    ensures { Admits (state engine.now (contents memory.now) ring.now table.now addresses.now cells.now) task call address result }
+    ensures { Admits (state engine.now (M.contents memory.now) ring.now table.now addresses.now cells.now) task call address result }
 {
     addressed(engine, memory, ring, table, addresses, cells, task, address)?;
     let slot = task as usize;

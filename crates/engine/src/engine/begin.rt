@@ -23,8 +23,8 @@ impl Engine {
         arrays: &mut Arrays<'_, '_, '_, '_, F, M::Cell>,
         task: u32,
     ) -> Result<u32, Refusal>
-        ensures step { Step F.Filter (view self.now (contents memory.now) arrays.old) (by task begin) result (view self.now (contents memory.now) arrays.new) }
-        ensures promise { Kept F.Filter (view self.now (contents memory.now) arrays.old) (by task begin) result (view self.now (contents memory.now) arrays.new) }
+        ensures step { Step F.Filter (view self.now (M.contents memory.now) arrays.old) (by task begin) result (view self.now (M.contents memory.now) arrays.new) }
+        ensures promise { Kept F.Filter (view self.now (M.contents memory.now) arrays.old) (by task begin) result (view self.now (M.contents memory.now) arrays.new) }
         ensures loans { SameLoans arrays.old arrays.new }
     {
         let Arrays {
@@ -46,7 +46,7 @@ fn begin_task<M: Memory, F: Filter>(
     cells: &mut [M::Cell],
     task: u32,
 ) -> Result<u32, Refusal>
-    ensures { Step F.Filter (state engine.now (contents memory.now) ring.old table.old addresses.old cells.old) (by task begin) result (state engine.now (contents memory.now) ring.new table.new addresses.new cells.new) }
+    ensures { Step F.Filter (state engine.now (M.contents memory.now) ring.old table.old addresses.old cells.old) (by task begin) result (state engine.now (M.contents memory.now) ring.new table.new addresses.new cells.new) }
 {
     admit(
         engine,

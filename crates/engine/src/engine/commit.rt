@@ -31,8 +31,8 @@ impl Engine {
         arrays: &mut Arrays<'_, '_, '_, '_, F, M::Cell>,
         task: u32,
     ) -> Result<(Option<u32>, u32), Denial>
-        ensures step { Step F.Filter (view self.old (contents memory.now) arrays.old) (by task commit) result (view self.new (contents memory.now) arrays.new) }
-        ensures promise { Kept F.Filter (view self.old (contents memory.now) arrays.old) (by task commit) result (view self.new (contents memory.now) arrays.new) }
+        ensures step { Step F.Filter (view self.old (M.contents memory.now) arrays.old) (by task commit) result (view self.new (M.contents memory.now) arrays.new) }
+        ensures promise { Kept F.Filter (view self.old (M.contents memory.now) arrays.old) (by task commit) result (view self.new (M.contents memory.now) arrays.new) }
         ensures loans { SameLoans arrays.old arrays.new }
     {
         let Arrays {
@@ -54,7 +54,7 @@ fn commit_task<M: Memory, F: Filter>(
     cells: &mut [M::Cell],
     task: u32,
 ) -> Result<(Option<u32>, u32), Denial>
-    ensures { Step F.Filter (state engine.old (contents memory.now) ring.old table.old addresses.old cells.old) (by task commit) result (state engine.new (contents memory.now) ring.new table.new addresses.new cells.new) }
+    ensures { Step F.Filter (state engine.old (M.contents memory.now) ring.old table.old addresses.old cells.old) (by task commit) result (state engine.new (M.contents memory.now) ring.new table.new addresses.new cells.new) }
 {
     let record = admit(
         engine,

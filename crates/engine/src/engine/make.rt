@@ -29,8 +29,8 @@ impl Engine {
         memory: &M,
         arrays: &mut Arrays<'_, '_, '_, '_, F, M::Cell>,
     ) -> Result<Engine, Refusal>
-        ensures step { MakeStep F.Filter (request settings (contents memory.now) arrays.old) result (λ e. view e (contents memory.now) arrays.new) (request settings (contents memory.now) arrays.new) }
-        ensures promise { Begun F.Filter (contents memory.now) result (λ e. view e (contents memory.now) arrays.new) }
+        ensures step { MakeStep F.Filter (request settings (M.contents memory.now) arrays.old) result (λ e. view e (M.contents memory.now) arrays.new) (request settings (M.contents memory.now) arrays.new) }
+        ensures promise { Begun F.Filter (M.contents memory.now) result (λ e. view e (M.contents memory.now) arrays.new) }
         ensures loans { SameLoans arrays.old arrays.new }
     {
         let Arrays {
@@ -51,7 +51,7 @@ fn make_engine<M: Memory, F: Filter>(
     addresses: &mut [u32],
     cells: &mut [M::Cell],
 ) -> Result<Engine, Refusal>
-    ensures { MakeStep F.Filter (asked settings (contents memory.now) ring.old table.old addresses.old cells.old) result (λ e. state e (contents memory.now) ring.new table.new addresses.new cells.new) (asked settings (contents memory.now) ring.new table.new addresses.new cells.new) }
+    ensures { MakeStep F.Filter (asked settings (M.contents memory.now) ring.old table.old addresses.old cells.old) result (λ e. state e (M.contents memory.now) ring.new table.new addresses.new cells.new) (asked settings (M.contents memory.now) ring.new table.new addresses.new cells.new) }
 {
     examine(settings, memory, ring, table, addresses, cells)?;
     fill(ring, Entry::vacant());
@@ -104,7 +104,7 @@ fn examine<M: Memory, F: Filter>(
     addresses: &[u32],
     cells: &[M::Cell],
 ) -> Result<(), Refusal>
-    ensures { Examined (asked settings (contents memory.now) ring.now table.now addresses.now cells.now) result }
+    ensures { Examined (asked settings (M.contents memory.now) ring.now table.now addresses.now cells.now) result }
 {
     limits(settings, memory.size())?;
     let logs = settings.tasks as usize * settings.pairs as usize;

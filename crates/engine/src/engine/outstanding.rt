@@ -21,8 +21,8 @@ impl Engine {
         memory: &M,
         arrays: &mut Arrays<'_, '_, '_, '_, F, M::Cell>,
     ) -> Result<u32, Refusal>
-        ensures step { Step F.Filter (view self.now (contents memory.now) arrays.old) outstanding result (view self.now (contents memory.now) arrays.new) }
-        ensures promise { Kept F.Filter (view self.now (contents memory.now) arrays.old) outstanding result (view self.now (contents memory.now) arrays.new) }
+        ensures step { Step F.Filter (view self.now (M.contents memory.now) arrays.old) outstanding result (view self.now (M.contents memory.now) arrays.new) }
+        ensures promise { Kept F.Filter (view self.now (M.contents memory.now) arrays.old) outstanding result (view self.now (M.contents memory.now) arrays.new) }
         ensures loans { SameLoans arrays.old arrays.new }
     {
         let Arrays {
@@ -43,7 +43,7 @@ fn count_owed<M: Memory, F: Filter>(
     addresses: &mut [u32],
     cells: &mut [M::Cell],
 ) -> Result<u32, Refusal>
-    ensures { Step F.Filter (state engine.now (contents memory.now) ring.old table.old addresses.old cells.old) outstanding result (state engine.now (contents memory.now) ring.new table.new addresses.new cells.new) }
+    ensures { Step F.Filter (state engine.now (M.contents memory.now) ring.old table.old addresses.old cells.old) outstanding result (state engine.now (M.contents memory.now) ring.new table.new addresses.new cells.new) }
 {
     if !fits(engine, memory, ring, table, addresses, cells) {
         return Err(Refusal::ArrayLength);

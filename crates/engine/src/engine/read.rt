@@ -27,8 +27,8 @@ impl Engine {
         task: u32,
         address: u32,
     ) -> Result<(M::Cell, u32), Denial>
-        ensures step { Step F.Filter (view self.now (contents memory.now) arrays.old) (by task (read address)) result (view self.now (contents memory.now) arrays.new) }
-        ensures promise { Kept F.Filter (view self.now (contents memory.now) arrays.old) (by task (read address)) result (view self.now (contents memory.now) arrays.new) }
+        ensures step { Step F.Filter (view self.now (M.contents memory.now) arrays.old) (by task (read address)) result (view self.now (M.contents memory.now) arrays.new) }
+        ensures promise { Kept F.Filter (view self.now (M.contents memory.now) arrays.old) (by task (read address)) result (view self.now (M.contents memory.now) arrays.new) }
         ensures loans { SameLoans arrays.old arrays.new }
     {
         let Arrays {
@@ -51,7 +51,7 @@ fn read_task<M: Memory, F: Filter>(
     task: u32,
     address: u32,
 ) -> Result<(M::Cell, u32), Denial>
-    ensures { Step F.Filter (state engine.now (contents memory.now) ring.old table.old addresses.old cells.old) (by task (read address)) result (state engine.now (contents memory.now) ring.new table.new addresses.new cells.new) }
+    ensures { Step F.Filter (state engine.now (M.contents memory.now) ring.old table.old addresses.old cells.old) (by task (read address)) result (state engine.now (M.contents memory.now) ring.new table.new addresses.new cells.new) }
 {
     let record = admit(
         engine,

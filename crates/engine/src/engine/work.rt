@@ -28,10 +28,10 @@ impl Engine {
         arrays: &mut Arrays<'_, '_, '_, '_, F, M::Cell>,
         task: u32,
     ) -> Result<Worked, Refusal>
-        ensures step { Step F.Filter (view self.now (contents memory.old) arrays.old) (by task work) result (view self.now (contents memory.new) arrays.new) }
-        ensures promise { Kept F.Filter (view self.now (contents memory.old) arrays.old) (by task work) result (view self.now (contents memory.new) arrays.new) }
-        ensures rest { rest memory.new ≡ rest memory.old }
-        ensures lender { lender memory.new ≡ lender memory.old }
+        ensures step { Step F.Filter (view self.now (M.contents memory.old) arrays.old) (by task work) result (view self.now (M.contents memory.new) arrays.new) }
+        ensures promise { Kept F.Filter (view self.now (M.contents memory.old) arrays.old) (by task work) result (view self.now (M.contents memory.new) arrays.new) }
+        ensures rest { M.rest memory.new ≡ M.rest memory.old }
+        ensures lender { M.lender memory.new ≡ M.lender memory.old }
         ensures loans { SameLoans arrays.old arrays.new }
     {
         let Arrays {
@@ -53,9 +53,9 @@ fn work_task<M: Memory, F: Filter>(
     cells: &mut [M::Cell],
     task: u32,
 ) -> Result<Worked, Refusal>
-    ensures step { Step F.Filter (state engine.now (contents memory.old) ring.old table.old addresses.old cells.old) (by task work) result (state engine.now (contents memory.new) ring.new table.new addresses.new cells.new) }
-    ensures rest { rest memory.new ≡ rest memory.old }
-    ensures lender { lender memory.new ≡ lender memory.old }
+    ensures step { Step F.Filter (state engine.now (M.contents memory.old) ring.old table.old addresses.old cells.old) (by task work) result (state engine.now (M.contents memory.new) ring.new table.new addresses.new cells.new) }
+    ensures rest { M.rest memory.new ≡ M.rest memory.old }
+    ensures lender { M.lender memory.new ≡ M.lender memory.old }
 {
     let record = admit(
         engine,
@@ -89,9 +89,9 @@ fn work_task<M: Memory, F: Filter>(
 
 // A logged cell is written to its address.
 fn write_back<M: Memory>(memory: &mut M, address: u32, cell: M::Cell) -> Result<(), Refusal>
-    ensures writes { Writes (contents memory.old) address cell result (contents memory.new) }
-    ensures rest { rest memory.new ≡ rest memory.old }
-    ensures lender { lender memory.new ≡ lender memory.old }
+    ensures writes { Writes (M.contents memory.old) address cell result (M.contents memory.new) }
+    ensures rest { M.rest memory.new ≡ M.rest memory.old }
+    ensures lender { M.lender memory.new ≡ M.lender memory.old }
 {
     memory.write(address as usize, cell)
 }

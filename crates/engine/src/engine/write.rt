@@ -25,8 +25,8 @@ impl Engine {
         address: u32,
         cell: M::Cell,
     ) -> Result<u32, Refusal>
-        ensures step { Step F.Filter (view self.now (contents memory.now) arrays.old) (by task (write address cell)) result (view self.now (contents memory.now) arrays.new) }
-        ensures promise { Kept F.Filter (view self.now (contents memory.now) arrays.old) (by task (write address cell)) result (view self.now (contents memory.now) arrays.new) }
+        ensures step { Step F.Filter (view self.now (M.contents memory.now) arrays.old) (by task (write address cell)) result (view self.now (M.contents memory.now) arrays.new) }
+        ensures promise { Kept F.Filter (view self.now (M.contents memory.now) arrays.old) (by task (write address cell)) result (view self.now (M.contents memory.now) arrays.new) }
         ensures loans { SameLoans arrays.old arrays.new }
     {
         let Arrays {
@@ -52,7 +52,7 @@ fn write_task<M: Memory, F: Filter>(
     address: u32,
     cell: M::Cell,
 ) -> Result<u32, Refusal>
-    ensures { Step F.Filter (state engine.now (contents memory.now) ring.old table.old addresses.old cells.old) (by task (write address cell)) result (state engine.now (contents memory.now) ring.new table.new addresses.new cells.new) }
+    ensures { Step F.Filter (state engine.now (M.contents memory.now) ring.old table.old addresses.old cells.old) (by task (write address cell)) result (state engine.now (M.contents memory.now) ring.new table.new addresses.new cells.new) }
 {
     let record = admit(
         engine,

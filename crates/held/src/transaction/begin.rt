@@ -21,8 +21,8 @@ impl OpenTransaction {
         arrays: &mut Arrays<'_, '_, '_, '_, F, M::Cell>,
         task: u32,
     ) -> Result<(OpenTransaction, u32), Refusal>
-        ensures step { Step F.Filter (view engine.now (contents memory.now) arrays.old) (by task begin) (begin_reply result) (view engine.now (contents memory.now) arrays.new) }
-        ensures promise { Kept F.Filter (view engine.now (contents memory.now) arrays.old) (by task begin) (begin_reply result) (view engine.now (contents memory.now) arrays.new) }
+        ensures step { Step F.Filter (view engine.now (M.contents memory.now) arrays.old) (by task begin) (begin_reply result) (view engine.now (M.contents memory.now) arrays.new) }
+        ensures promise { Kept F.Filter (view engine.now (M.contents memory.now) arrays.old) (by task begin) (begin_reply result) (view engine.now (M.contents memory.now) arrays.new) }
         ensures handed { BeginHands task result }
         ensures loans { SameLoans arrays.old arrays.new }
     {

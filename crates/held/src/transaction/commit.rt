@@ -22,8 +22,8 @@ impl OpenTransaction {
         memory: &M,
         arrays: &mut Arrays<'_, '_, '_, '_, F, M::Cell>,
     ) -> Committing
-        ensures step { Step F.Filter (view engine.old (contents memory.now) arrays.old) (by self.task commit) (commit_reply result) (view engine.new (contents memory.now) arrays.new) }
-        ensures promise { Kept F.Filter (view engine.old (contents memory.now) arrays.old) (by self.task commit) (commit_reply result) (view engine.new (contents memory.now) arrays.new) }
+        ensures step { Step F.Filter (view engine.old (M.contents memory.now) arrays.old) (by self.task commit) (commit_reply result) (view engine.new (M.contents memory.now) arrays.new) }
+        ensures promise { Kept F.Filter (view engine.old (M.contents memory.now) arrays.old) (by self.task commit) (commit_reply result) (view engine.new (M.contents memory.now) arrays.new) }
         ensures handed { CommitHands self.task result }
         ensures loans { SameLoans arrays.old arrays.new }
     {

@@ -21,8 +21,8 @@ impl OpenTransaction {
         memory: &M,
         arrays: &mut Arrays<'_, '_, '_, '_, F, M::Cell>,
     ) -> Quitting
-        ensures step { Step F.Filter (view engine.now (contents memory.now) arrays.old) (by self.task quit) (quit_reply result) (view engine.now (contents memory.now) arrays.new) }
-        ensures promise { Kept F.Filter (view engine.now (contents memory.now) arrays.old) (by self.task quit) (quit_reply result) (view engine.now (contents memory.now) arrays.new) }
+        ensures step { Step F.Filter (view engine.now (M.contents memory.now) arrays.old) (by self.task quit) (quit_reply result) (view engine.now (M.contents memory.now) arrays.new) }
+        ensures promise { Kept F.Filter (view engine.now (M.contents memory.now) arrays.old) (by self.task quit) (quit_reply result) (view engine.now (M.contents memory.now) arrays.new) }
         ensures handed { QuitHands self.task result }
         ensures loans { SameLoans arrays.old arrays.new }
     {

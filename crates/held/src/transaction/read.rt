@@ -23,8 +23,8 @@ impl OpenTransaction {
         arrays: &mut Arrays<'_, '_, '_, '_, F, M::Cell>,
         address: u32,
     ) -> Reading<M::Cell>
-        ensures step { Step F.Filter (view engine.now (contents memory.now) arrays.old) (by self.task (read address)) (read_reply result) (view engine.now (contents memory.now) arrays.new) }
-        ensures promise { Kept F.Filter (view engine.now (contents memory.now) arrays.old) (by self.task (read address)) (read_reply result) (view engine.now (contents memory.now) arrays.new) }
+        ensures step { Step F.Filter (view engine.now (M.contents memory.now) arrays.old) (by self.task (read address)) (read_reply result) (view engine.now (M.contents memory.now) arrays.new) }
+        ensures promise { Kept F.Filter (view engine.now (M.contents memory.now) arrays.old) (by self.task (read address)) (read_reply result) (view engine.now (M.contents memory.now) arrays.new) }
         ensures handed { ReadHands self.task result }
         ensures loans { SameLoans arrays.old arrays.new }
     {

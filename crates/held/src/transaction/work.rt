@@ -23,11 +23,11 @@ impl CommittedTransaction {
         memory: &mut M,
         arrays: &mut Arrays<'_, '_, '_, '_, F, M::Cell>,
     ) -> Working
-        ensures step { Step F.Filter (view engine.now (contents memory.old) arrays.old) (by self.task work) (work_reply result) (view engine.now (contents memory.new) arrays.new) }
-        ensures promise { Kept F.Filter (view engine.now (contents memory.old) arrays.old) (by self.task work) (work_reply result) (view engine.now (contents memory.new) arrays.new) }
+        ensures step { Step F.Filter (view engine.now (M.contents memory.old) arrays.old) (by self.task work) (work_reply result) (view engine.now (M.contents memory.new) arrays.new) }
+        ensures promise { Kept F.Filter (view engine.now (M.contents memory.old) arrays.old) (by self.task work) (work_reply result) (view engine.now (M.contents memory.new) arrays.new) }
         ensures handed { WorkHands self.task result }
-        ensures rest { rest memory.new ≡ rest memory.old }
-        ensures lender { lender memory.new ≡ lender memory.old }
+        ensures rest { M.rest memory.new ≡ M.rest memory.old }
+        ensures lender { M.lender memory.new ≡ M.lender memory.old }
         ensures loans { SameLoans arrays.old arrays.new }
     {
         let CommittedTransaction { task } = self;

@@ -23,8 +23,8 @@ impl OpenTransaction {
         address: u32,
         cell: M::Cell,
     ) -> Writing
-        ensures step { Step F.Filter (view engine.now (contents memory.now) arrays.old) (by self.task (write address cell)) (write_reply result) (view engine.now (contents memory.now) arrays.new) }
-        ensures promise { Kept F.Filter (view engine.now (contents memory.now) arrays.old) (by self.task (write address cell)) (write_reply result) (view engine.now (contents memory.now) arrays.new) }
+        ensures step { Step F.Filter (view engine.now (M.contents memory.now) arrays.old) (by self.task (write address cell)) (write_reply result) (view engine.now (M.contents memory.now) arrays.new) }
+        ensures promise { Kept F.Filter (view engine.now (M.contents memory.now) arrays.old) (by self.task (write address cell)) (write_reply result) (view engine.now (M.contents memory.now) arrays.new) }
         ensures handed { WriteHands self.task result }
         ensures loans { SameLoans arrays.old arrays.new }
     {
