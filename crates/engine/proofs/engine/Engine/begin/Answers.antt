@@ -8,7 +8,7 @@ pub returns : goal.returns
 returns g c =
     let met = g.met.F.Filter in
     record {
-      step = c.begin-task.ensures;
-      promise = kept g.F.Filter (lawful g.F.Filter met.none met.adds met.keeps met.common met.apart met.either) (by c.args.task begin) c.begin-task.result c.begin-task.ensures;
+      step = c.begin_task.ensures;
+      promise = kept g.F.Filter (lawful g.F.Filter met.none met.adds met.keeps met.common met.apart met.either) (by c.args.task begin) c.begin_task.result c.begin_task.ensures;
       loans = search rules;
     }

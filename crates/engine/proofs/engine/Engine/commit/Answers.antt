@@ -8,7 +8,7 @@ pub returns : goal.returns
 returns g c =
     let met = g.met.F.Filter in
     record {
-      step = c.commit-task.ensures;
-      promise = kept g.F.Filter (lawful g.F.Filter met.none met.adds met.keeps met.common met.apart met.either) (by c.args.task commit) c.commit-task.result c.commit-task.ensures;
+      step = c.commit_task.ensures;
+      promise = kept g.F.Filter (lawful g.F.Filter met.none met.adds met.keeps met.common met.apart met.either) (by c.args.task commit) c.commit_task.result c.commit_task.ensures;
       loans = search rules;
     }

@@ -7,7 +7,7 @@ pub returns : goal.returns
 returns g c =
     let met = g.met.F.Filter in
     record {
-      step = c.make-engine.ensures;
-      promise = begun g.F.Filter (lawful g.F.Filter met.none met.adds met.keeps met.common met.apart met.either) _ _ _ c.make-engine.result c.make-engine.ensures;
+      step = c.make_engine.ensures;
+      promise = begun g.F.Filter (lawful g.F.Filter met.none met.adds met.keeps met.common met.apart met.either) _ _ _ c.make_engine.result c.make_engine.ensures;
       loans = search rules;
     }

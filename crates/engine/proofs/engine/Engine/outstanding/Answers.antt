@@ -8,7 +8,7 @@ pub returns : goal.returns
 returns g c =
     let met = g.met.F.Filter in
     record {
-      step = c.count-owed.ensures;
-      promise = kept g.F.Filter (lawful g.F.Filter met.none met.adds met.keeps met.common met.apart met.either) (outstanding) c.count-owed.result c.count-owed.ensures;
+      step = c.count_owed.ensures;
+      promise = kept g.F.Filter (lawful g.F.Filter met.none met.adds met.keeps met.common met.apart met.either) (outstanding) c.count_owed.result c.count_owed.ensures;
       loans = search rules;
     }

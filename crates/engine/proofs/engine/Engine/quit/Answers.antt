@@ -8,7 +8,7 @@ pub returns : goal.returns
 returns g c =
     let met = g.met.F.Filter in
     record {
-      step = c.quit-task.ensures;
-      promise = kept g.F.Filter (lawful g.F.Filter met.none met.adds met.keeps met.common met.apart met.either) (by c.args.task quit) c.quit-task.result c.quit-task.ensures;
+      step = c.quit_task.ensures;
+      promise = kept g.F.Filter (lawful g.F.Filter met.none met.adds met.keeps met.common met.apart met.either) (by c.args.task quit) c.quit_task.result c.quit_task.ensures;
       loans = search rules;
     }

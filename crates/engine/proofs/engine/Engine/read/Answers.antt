@@ -8,7 +8,7 @@ pub returns : goal.returns
 returns g c =
     let met = g.met.F.Filter in
     record {
-      step = c.read-task.ensures;
-      promise = kept g.F.Filter (lawful g.F.Filter met.none met.adds met.keeps met.common met.apart met.either) (by c.args.task (read c.args.address)) c.read-task.result c.read-task.ensures;
+      step = c.read_task.ensures;
+      promise = kept g.F.Filter (lawful g.F.Filter met.none met.adds met.keeps met.common met.apart met.either) (by c.args.task (read c.args.address)) c.read_task.result c.read_task.ensures;
       loans = search rules;
     }

@@ -8,9 +8,9 @@ pub returns : goal.returns
 returns g c =
     let met = g.met.F.Filter in
     record {
-      step = c.work-task.ensures.step;
-      promise = kept g.F.Filter (lawful g.F.Filter met.none met.adds met.keeps met.common met.apart met.either) (by c.args.task work) c.work-task.result c.work-task.ensures.step;
-      rest = c.work-task.ensures.rest;
-      lender = c.work-task.ensures.lender;
+      step = c.work_task.ensures.step;
+      promise = kept g.F.Filter (lawful g.F.Filter met.none met.adds met.keeps met.common met.apart met.either) (by c.args.task work) c.work_task.result c.work_task.ensures.step;
+      rest = c.work_task.ensures.rest;
+      lender = c.work_task.ensures.lender;
       loans = search rules;
     }

@@ -8,7 +8,7 @@ pub returns : goal.returns
 returns g c =
     let met = g.met.F.Filter in
     record {
-      step = c.write-task.ensures;
-      promise = kept g.F.Filter (lawful g.F.Filter met.none met.adds met.keeps met.common met.apart met.either) (by c.args.task (write c.args.address c.args.cell)) c.write-task.result c.write-task.ensures;
+      step = c.write_task.ensures;
+      promise = kept g.F.Filter (lawful g.F.Filter met.none met.adds met.keeps met.common met.apart met.either) (by c.args.task (write c.args.address c.args.cell)) c.write_task.result c.write_task.ensures;
       loans = search rules;
     }

@@ -7,14 +7,14 @@ use Rattle.engine.specs.View.{state}
 use Rattle.rules.proofs.Clears.{accepts, rejects}
 use Rattle.engine.proofs.engine.begin.begin_task.Goals as goal
 
-pub returns-in-err-admit : goal.returns-in-err-admit
-returns-in-err-admit g c =
-    let p = err_from_is_err_and c.from-residual.result c.from-residual.ensures.1 in
-    rw (p.1, p.2) (record { refuses = rejects g.F.Filter _ _ begin _ c.in-err-admit.ensures; after = refl })
+pub returns-in_err-admit : goal.returns-in_err-admit
+returns-in_err-admit g c =
+    let p = err_from_is_err_and c.from_residual.result c.from_residual.ensures.1 in
+    rw (p.1, p.2) (record { refuses = rejects g.F.Filter _ _ begin _ c.in_err-admit.ensures; after = refl })
 
 pub returns : goal.returns
 returns g c =
-    let admitted = c.in-ok-admit.ensures in
+    let admitted = c.in_ok-admit.ensures in
     record {
       accepts = accepts g.F.Filter _ _ begin _ admitted (λ no_fault. no_fault) (λ no_fault. no_fault) (λ no_fault. no_fault) (λ _ no_fault. no_fault);
       settled = subst (λ (n : ℕ). Settled n c.args.ring.now c.args.engine.now.index c.settled-start.result) admitted.addressed.fits.ring c.settled-start.ensures;

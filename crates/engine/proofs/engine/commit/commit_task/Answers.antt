@@ -14,52 +14,52 @@ use Rattle.rules.proofs.Frames.{record_put, entry_put}
 use Rattle.rules.proofs.Phases.{open_rules}
 use Rattle.engine.proofs.engine.commit.commit_task.Given as given
 use Rattle.engine.proofs.engine.commit.commit_task.Goals as goal
-use Rattle.engine.proofs.engine.commit.commit_task.Goals.{In-ok-record, After-check}
+use Rattle.engine.proofs.engine.commit.commit_task.Goals.{In_ok-record, After-check}
 
-pub returns-in-err-record : goal.returns-in-err-record
-returns-in-err-record g c =
+pub returns-in_err-record : goal.returns-in_err-record
+returns-in_err-record g c =
     let s = state c.args.engine.now (g.M.Memory.contents c.args.memory.now) c.args.ring.now c.args.table.now c.args.addresses.now c.args.cells.now in
-    let p = err_from_is_err_and c.from-residual.result c.from-residual.ensures.1 in
-    rw (p.1, p.2) (record { refuses = rejects g.F.Filter s c.args.task commit _ c.in-err-record.ensures; after = refl {a = s} })
+    let p = err_from_is_err_and c.from_residual.result c.from_residual.ensures.1 in
+    rw (p.1, p.2) (record { refuses = rejects g.F.Filter s c.args.task commit _ c.in_err-record.ensures; after = refl {a = s} })
 
 pub returns-then-record-eq0 : goal.returns-then-record-eq0
 returns-then-record-eq0 g c =
     let s = state c.args.engine.now (g.M.Memory.contents c.args.memory.now) c.args.ring.now c.args.table.now c.args.addresses.now c.args.cells.now in
-    let admitted = c.in-ok-record.ensures in
+    let admitted = c.in_ok-record.ensures in
     record {
-      accepts = nothing_accepts g.F.Filter s c.args.task c.in-ok-record.record admitted c.if-record-eq0.true;
-      task = c.in-ok-record.record;
+      accepts = nothing_accepts g.F.Filter s c.args.task c.in_ok-record.record admitted c.if-record-eq0.true;
+      task = c.in_ok-record.record;
       there = admitted.there;
       none = c.if-record-eq0.true;
       counted = refl;
       empties = record { task = c.empty.ensures.idle; emptied = c.empty.ensures.emptied; after = record_put s c.args.task c.empty.ensures.idle c.empty.new.table c.empty.ensures.is };
     }
 
-pub returns-in-err-place : goal.returns-in-err-place
-returns-in-err-place g c =
+pub returns-in_err-place : goal.returns-in_err-place
+returns-in_err-place g c =
     let s = state c.args.engine.now (g.M.Memory.contents c.args.memory.now) c.args.ring.now c.args.table.now c.args.addresses.now c.args.cells.now in
-    let p = err_from_is_err_and c.from-residual-in-err-place.result c.from-residual-in-err-place.ensures.1 in
-    let some : 0 < c.in-ok-record.record.logged = omega (arith, c.if-record-eq0.false) in
-    rw (p.1, p.2) (record { refuses = next_refuses g.F.Filter s c.args.task c.in-ok-record.record c.in-ok-record.ensures some _ c.in-err-place.ensures; after = refl {a = s} })
+    let p = err_from_is_err_and c.from_residual-in_err-place.result c.from_residual-in_err-place.ensures.1 in
+    let some : 0 < c.in_ok-record.record.logged = omega (arith, c.if-record-eq0.false) in
+    rw (p.1, p.2) (record { refuses = next_refuses g.F.Filter s c.args.task c.in_ok-record.record c.in_ok-record.ensures some _ c.in_err-place.ensures; after = refl {a = s} })
 
 -- The caller's record begins at most at the index.
-begun : (g : given.Over) (c : In-ok-record g) → c.in-ok-record.record.start ≤ c.args.engine.now.index
+begun : (g : given.Over) (c : In_ok-record g) → c.in_ok-record.record.start ≤ c.args.engine.now.index
 begun g c =
     let engine = c.args.engine.now in
-    let r = c.in-ok-record.record in
-    let admitted = c.in-ok-record.ensures in
+    let r = c.in_ok-record.record in
+    let admitted = c.in_ok-record.ensures in
     (open_rules engine.pairs engine.size engine.index engine.slots c.args.ring.now c.args.addresses.now (c.args.task * engine.pairs) r Commit refl refl r.phase admitted.allowed admitted.whole).log.start
 
 -- What is known once the check has answered.
-checked : (g : given.Over) (c : After-check g) (verdict : Verdict) → Checks g.F.Filter c.args.engine.now.slots c.args.ring.now c.in-ok-record.record.reads c.args.engine.now.index c.in-ok-record.record.start verdict → CommitChecks g.F.Filter (state c.args.engine.now (g.M.Memory.contents c.args.memory.now) c.args.ring.now c.args.table.now c.args.addresses.now c.args.cells.now) c.args.task verdict
+checked : (g : given.Over) (c : After-check g) (verdict : Verdict) → Checks g.F.Filter c.args.engine.now.slots c.args.ring.now c.in_ok-record.record.reads c.args.engine.now.index c.in_ok-record.record.start verdict → CommitChecks g.F.Filter (state c.args.engine.now (g.M.Memory.contents c.args.memory.now) c.args.ring.now c.args.table.now c.args.addresses.now c.args.cells.now) c.args.task verdict
 checked g c verdict answered =
     let s = state c.args.engine.now (g.M.Memory.contents c.args.memory.now) c.args.ring.now c.args.table.now c.args.addresses.now c.args.cells.now in
-    let admitted = c.in-ok-record.ensures in
-    let next = c.in-ok-place.ensures in
-    let some : 0 < c.in-ok-record.record.logged = omega (arith, c.if-record-eq0.false) in
+    let admitted = c.in_ok-record.ensures in
+    let next = c.in_ok-place.ensures in
+    let some : 0 < c.in_ok-record.record.logged = omega (arith, c.if-record-eq0.false) in
     record {
-      accepts = next_accepts g.F.Filter s c.args.task c.in-ok-record.record admitted some next.1 next.2;
-      task = c.in-ok-record.record;
+      accepts = next_accepts g.F.Filter s c.args.task c.in_ok-record.record admitted some next.1 next.2;
+      task = c.in_ok-record.record;
       there = admitted.there;
       some = some;
       checks = answered;
@@ -69,26 +69,26 @@ pub returns-in-Passed : goal.returns-in-Passed
 unfolding checked
 returns-in-Passed g c =
     let s = state c.args.engine.now (g.M.Memory.contents c.args.memory.now) c.args.ring.now c.args.table.now c.args.addresses.now c.args.cells.now in
-    let fits = c.in-ok-record.ensures.addressed.fits.ring in
-    let r = c.in-ok-record.record in
-    let place = c.in-ok-place.place in
+    let fits = c.in_ok-record.ensures.addressed.fits.ring in
+    let r = c.in_ok-record.record in
+    let place = c.in_ok-place.place in
     let verdict = Passed c.in-Passed.start c.in-Passed.compared in
-    let passed = subst (λ (n : ℕ). Checks g.F.Filter n c.args.ring.now r.reads c.args.engine.now.index r.start verdict) fits (c.in-Passed.ensures.walked (begun g (goal.at.returns-in-Passed g c).In-ok-record)) in
+    let passed = subst (λ (n : ℕ). Checks g.F.Filter n c.args.ring.now r.reads c.args.engine.now.index r.start verdict) fits (c.in-Passed.ensures.walked (begun g (goal.at.returns-in-Passed g c).In_ok-record)) in
     let put = subst (λ (n : ℕ). c.enter.new.ring ≡ set c.args.ring.now (place % n) (record { stamp = place; filter = r.writes; status = Writing })) fits c.enter.ensures in
     record {
       start = c.in-Passed.start;
       checked = checked g (goal.at.returns-in-Passed g c).After-check verdict passed;
-      next = c.in-ok-place.ensures.0;
+      next = c.in_ok-place.ensures.0;
       after = entry_put s place place (record { stamp = place; filter = r.writes; status = Writing }) c.args.task (after_commit r c.in-Passed.start place) c.enter.new.ring c.put.new.items put c.put.ensures;
     }
 
 pub returns-in-Conflict : goal.returns-in-Conflict
 returns-in-Conflict g c =
     let s = state c.args.engine.now (g.M.Memory.contents c.args.memory.now) c.args.ring.now c.args.table.now c.args.addresses.now c.args.cells.now in
-    let fits = c.in-ok-record.ensures.addressed.fits.ring in
-    let r = c.in-ok-record.record in
+    let fits = c.in_ok-record.ensures.addressed.fits.ring in
+    let r = c.in_ok-record.record in
     let verdict = Conflict c.in-Conflict.place c.in-Conflict.compared in
-    let met = subst (λ (n : ℕ). Checks g.F.Filter n c.args.ring.now r.reads c.args.engine.now.index r.start verdict) fits (c.in-Conflict.ensures.walked (begun g (goal.at.returns-in-Conflict g c).In-ok-record)) in (
+    let met = subst (λ (n : ℕ). Checks g.F.Filter n c.args.ring.now r.reads c.args.engine.now.index r.start verdict) fits (c.in-Conflict.ensures.walked (begun g (goal.at.returns-in-Conflict g c).In_ok-record)) in (
       checked g (goal.at.returns-in-Conflict g c).After-check verdict met,
       record { task = c.empty-in-Conflict.ensures.idle; emptied = c.empty-in-Conflict.ensures.emptied; after = record_put s c.args.task c.empty-in-Conflict.ensures.idle c.empty-in-Conflict.new.table c.empty-in-Conflict.ensures.is },
     )
@@ -96,10 +96,10 @@ returns-in-Conflict g c =
 pub returns-in-Overrun : goal.returns-in-Overrun
 returns-in-Overrun g c =
     let s = state c.args.engine.now (g.M.Memory.contents c.args.memory.now) c.args.ring.now c.args.table.now c.args.addresses.now c.args.cells.now in
-    let fits = c.in-ok-record.ensures.addressed.fits.ring in
-    let r = c.in-ok-record.record in
+    let fits = c.in_ok-record.ensures.addressed.fits.ring in
+    let r = c.in_ok-record.record in
     let verdict = Overrun c.in-Overrun.compared in
-    let lost = subst (λ (n : ℕ). Checks g.F.Filter n c.args.ring.now r.reads c.args.engine.now.index r.start verdict) fits (c.in-Overrun.ensures.walked (begun g (goal.at.returns-in-Overrun g c).In-ok-record)) in (
+    let lost = subst (λ (n : ℕ). Checks g.F.Filter n c.args.ring.now r.reads c.args.engine.now.index r.start verdict) fits (c.in-Overrun.ensures.walked (begun g (goal.at.returns-in-Overrun g c).In_ok-record)) in (
       checked g (goal.at.returns-in-Overrun g c).After-check verdict lost,
       record { task = c.empty-in-Overrun.ensures.idle; emptied = c.empty-in-Overrun.ensures.emptied; after = record_put s c.args.task c.empty-in-Overrun.ensures.idle c.empty-in-Overrun.new.table c.empty-in-Overrun.ensures.is },
     )

@@ -6,17 +6,17 @@ use Rattle.engine.proofs.Makings.{limits_refuse, making_unfit}
 use Rattle.engine.proofs.engine.make.examine.Goals as goal
 use Rattle.engine.proofs.engine.make.examine.Goals.{then-ring-settings-via-then-ring-settings, then-ring-settings-via-else-ring-settings+then-table-settings, then-ring-settings-via-else-ring-settings+else-table-settings+then-addresses-logs, then-ring-settings-via-else-ring-settings+else-table-settings+else-addresses-logs+then-cells-logs}
 
-pub returns-in-err-limits : goal.returns-in-err-limits
-returns-in-err-limits g c =
+pub returns-in_err-limits : goal.returns-in_err-limits
+returns-in_err-limits g c =
     let s = asked c.args.settings (g.M.Memory.contents c.args.memory.now) c.args.ring.now c.args.table.now c.args.addresses.now c.args.cells.now in
-    let p = err_from_is_err_and c.from-residual.result c.from-residual.ensures.1 in
-    let q = c.in-err-limits.field-0.0 in
-    rw (p.1, p.2) (limits_refuse s q (subst (λ (n : ℕ). Limits c.args.settings n (Err q)) c.size.ensures c.in-err-limits.ensures))
+    let p = err_from_is_err_and c.from_residual.result c.from_residual.ensures.1 in
+    let q = c.in_err-limits.field-0.0 in
+    rw (p.1, p.2) (limits_refuse s q (subst (λ (n : ℕ). Limits c.args.settings n (Err q)) c.size.ensures c.in_err-limits.ensures))
 
 pub returns-then-ring-settings : goal.returns-then-ring-settings
 returns-then-ring-settings g c =
     let s = asked c.args.settings (g.M.Memory.contents c.args.memory.now) c.args.ring.now c.args.table.now c.args.addresses.now c.args.cells.now in
-    making_unfit s (subst (Limited c.args.settings) c.size.ensures c.in-ok-limits.ensures) (λ fits.
+    making_unfit s (subst (Limited c.args.settings) c.size.ensures c.in_ok-limits.ensures) (λ fits.
     elim c.then-ring-settings.branch [
       | then-ring-settings-via-then-ring-settings w ↦ w.if-ring-settings.true fits.ring
       | then-ring-settings-via-else-ring-settings+then-table-settings w ↦ w.if-table-settings.true fits.table
@@ -26,7 +26,7 @@ returns-then-ring-settings g c =
 
 pub returns : goal.returns
 returns g c =
-    let within = subst (Limited c.args.settings) c.size.ensures c.in-ok-limits.ensures in
+    let within = subst (Limited c.args.settings) c.size.ensures c.in_ok-limits.ensures in
     record {
       ring = within.ring;
       tasks = within.tasks;

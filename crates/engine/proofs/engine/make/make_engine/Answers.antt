@@ -13,7 +13,7 @@ pub returns : goal.returns
 returns g c =
     let s = asked c.args.settings (g.M.Memory.contents c.args.memory.now) c.args.ring.now c.args.table.now c.args.addresses.now c.args.cells.now in
     record {
-      accepts = makes_no_fault {s = s} c.in-ok-examine.ensures;
+      accepts = makes_no_fault {s = s} c.in_ok-examine.ensures;
       ring_length = c.fill.auto.items;
       table_length = c.fill-2.auto.items;
       vacant = λ i e there. subst (Vacant g.F.Filter) (sym (c.fill.ensures i e there)) c.vacant.ensures;

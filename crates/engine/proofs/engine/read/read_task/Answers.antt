@@ -16,20 +16,20 @@ use Rattle.rules.proofs.Phases.{open_rules}
 use Rattle.rules.proofs.Rooms.{log_room}
 use Rattle.engine.proofs.engine.read.read_task.Given as given
 use Rattle.engine.proofs.engine.read.read_task.Goals as goal
-use Rattle.engine.proofs.engine.read.read_task.Goals.{In-ok-record, After-check}
+use Rattle.engine.proofs.engine.read.read_task.Goals.{In_ok-record, After-check}
 
-pub returns-in-err-record : goal.returns-in-err-record
-returns-in-err-record g c =
+pub returns-in_err-record : goal.returns-in_err-record
+returns-in_err-record g c =
     let s = state c.args.engine.now (g.M.Memory.contents c.args.memory.now) c.args.ring.now c.args.table.now c.args.addresses.now c.args.cells.now in
-    let p = err_from_is_err_and c.from-residual.result c.from-residual.ensures.1 in
-    rw (p.1, p.2) (record { refuses = rejects g.F.Filter s c.args.task (read c.args.address) _ c.in-err-record.ensures; after = refl {a = s} })
+    let p = err_from_is_err_and c.from_residual.result c.from_residual.ensures.1 in
+    rw (p.1, p.2) (record { refuses = rejects g.F.Filter s c.args.task (read c.args.address) _ c.in_err-record.ensures; after = refl {a = s} })
 
 pub lookup-requires : goal.lookup-requires
 lookup-requires g c =
     let engine = c.args.engine.now in
-    let admitted = c.in-ok-record.ensures in
-    let logged = c.in-ok-record.record.logged in
-    let rules = open_rules engine.pairs engine.size engine.index engine.slots c.args.ring.now c.args.addresses.now (c.args.task * engine.pairs) c.in-ok-record.record Read refl refl c.in-ok-record.record.phase admitted.allowed admitted.whole in
+    let admitted = c.in_ok-record.ensures in
+    let logged = c.in_ok-record.record.logged in
+    let rules = open_rules engine.pairs engine.size engine.index engine.slots c.args.ring.now c.args.addresses.now (c.args.task * engine.pairs) c.in_ok-record.record Read refl refl c.in_ok-record.record.phase admitted.allowed admitted.whole in
     let room = log_room c.args.task engine.tasks engine.pairs logged admitted.addressed.known rules.log.logged in
     let fits = admitted.addressed.fits in
     let addresses_fit = fits.addresses in
@@ -39,11 +39,11 @@ lookup-requires g c =
 pub returns-in-Some : goal.returns-in-Some
 returns-in-Some g c =
     let s = state c.args.engine.now (g.M.Memory.contents c.args.memory.now) c.args.ring.now c.args.table.now c.args.addresses.now c.args.cells.now in
-    let admitted = c.in-ok-record.ensures in
+    let admitted = c.in_ok-record.ensures in
     let found = c.in-Some.ensures in
     inl (record {
       accepts = accepts g.F.Filter s c.args.task (read c.args.address) _ admitted (λ none. none) (λ none. none) (λ none. none) (λ _ none. none);
-      task = c.in-ok-record.record;
+      task = c.in_ok-record.record;
       there = admitted.there;
       position = _;
       first = found.0;
@@ -53,48 +53,48 @@ returns-in-Some g c =
     })
 
 -- The caller's record begins at most at the index.
-begun : (g : given.Over) (c : In-ok-record g) → c.in-ok-record.record.start ≤ c.args.engine.now.index
+begun : (g : given.Over) (c : In_ok-record g) → c.in_ok-record.record.start ≤ c.args.engine.now.index
 begun g c =
     let engine = c.args.engine.now in
-    let r = c.in-ok-record.record in
-    let admitted = c.in-ok-record.ensures in
+    let r = c.in_ok-record.record in
+    let admitted = c.in_ok-record.ensures in
     (open_rules engine.pairs engine.size engine.index engine.slots c.args.ring.now c.args.addresses.now (c.args.task * engine.pairs) r Read refl refl r.phase admitted.allowed admitted.whole).log.start
 
 -- What is known once the check has answered.
-checked : (g : given.Over) (c : After-check g) (verdict : Verdict) → Checks g.F.Filter c.args.engine.now.slots c.args.ring.now c.add-reads.result c.args.engine.now.index c.in-ok-record.record.start verdict → ReadChecks g.F.Filter (state c.args.engine.now (g.M.Memory.contents c.args.memory.now) c.args.ring.now c.args.table.now c.args.addresses.now c.args.cells.now) c.args.task c.args.address verdict
+checked : (g : given.Over) (c : After-check g) (verdict : Verdict) → Checks g.F.Filter c.args.engine.now.slots c.args.ring.now c.add-reads.result c.args.engine.now.index c.in_ok-record.record.start verdict → ReadChecks g.F.Filter (state c.args.engine.now (g.M.Memory.contents c.args.memory.now) c.args.ring.now c.args.table.now c.args.addresses.now c.args.cells.now) c.args.task c.args.address verdict
 checked g c verdict answered =
     let s = state c.args.engine.now (g.M.Memory.contents c.args.memory.now) c.args.ring.now c.args.table.now c.args.addresses.now c.args.cells.now in
-    let admitted = c.in-ok-record.ensures in
+    let admitted = c.in_ok-record.ensures in
     record {
-      accepts = accepts g.F.Filter s c.args.task (read c.args.address) c.in-ok-record.record admitted (λ none. none) (λ none. none) (λ none. none) (λ _ none. none);
-      task = c.in-ok-record.record;
+      accepts = accepts g.F.Filter s c.args.task (read c.args.address) c.in_ok-record.record admitted (λ none. none) (λ none. none) (λ none. none) (λ _ none. none);
+      task = c.in_ok-record.record;
       there = admitted.there;
-      new = c.in-default.ensures;
+      new = c.in_default.ensures;
       reads = c.add-reads.result;
       widened = c.add-reads.ensures;
       checks = answered;
     }
 
-pub returns-in-ok-cell : goal.returns-in-ok-cell
+pub returns-in_ok-cell-in-Passed : goal.returns-in_ok-cell-in-Passed
 unfolding checked
-returns-in-ok-cell g c =
+returns-in_ok-cell-in-Passed g c =
     let s = state c.args.engine.now (g.M.Memory.contents c.args.memory.now) c.args.ring.now c.args.table.now c.args.addresses.now c.args.cells.now in
-    let fits = c.in-ok-record.ensures.addressed.fits.ring in
-    let passed = subst (λ (n : ℕ). Checks g.F.Filter n c.args.ring.now c.add-reads.result c.args.engine.now.index c.in-ok-record.record.start (Passed c.in-Passed.start c.in-Passed.compared)) fits (c.in-Passed.ensures.walked (begun g (goal.at.returns-in-ok-cell g c).In-ok-record)) in
-    let cell = c.in-ok-cell.ensures in
+    let fits = c.in_ok-record.ensures.addressed.fits.ring in
+    let passed = subst (λ (n : ℕ). Checks g.F.Filter n c.args.ring.now c.add-reads.result c.args.engine.now.index c.in_ok-record.record.start (Passed c.in-Passed.start c.in-Passed.compared)) fits (c.in-Passed.ensures.walked (begun g (goal.at.returns-in_ok-cell-in-Passed g c).In_ok-record)) in
+    let cell = c.in_ok-cell-in-Passed.ensures in
     inr (record {
       start = c.in-Passed.start;
-      checked = checked g (goal.at.returns-in-ok-cell g c).After-check (Passed c.in-Passed.start c.in-Passed.compared) passed;
+      checked = checked g (goal.at.returns-in_ok-cell-in-Passed g c).After-check (Passed c.in-Passed.start c.in-Passed.compared) passed;
       cell = record { within = cell.0; is = cell.1 };
-      after = record_put s c.args.task (after_read c.in-ok-record.record c.in-Passed.start c.add-reads.result) c.put.new.items c.put.ensures;
+      after = record_put s c.args.task (after_read c.in_ok-record.record c.in-Passed.start c.add-reads.result) c.put.new.items c.put.ensures;
     })
 
 pub returns-in-Conflict : goal.returns-in-Conflict
 returns-in-Conflict g c =
     let s = state c.args.engine.now (g.M.Memory.contents c.args.memory.now) c.args.ring.now c.args.table.now c.args.addresses.now c.args.cells.now in
-    let fits = c.in-ok-record.ensures.addressed.fits.ring in
+    let fits = c.in_ok-record.ensures.addressed.fits.ring in
     let verdict = Conflict c.in-Conflict.place c.in-Conflict.compared in
-    let met = subst (λ (n : ℕ). Checks g.F.Filter n c.args.ring.now c.add-reads.result c.args.engine.now.index c.in-ok-record.record.start verdict) fits (c.in-Conflict.ensures.walked (begun g (goal.at.returns-in-Conflict g c).In-ok-record)) in (
+    let met = subst (λ (n : ℕ). Checks g.F.Filter n c.args.ring.now c.add-reads.result c.args.engine.now.index c.in_ok-record.record.start verdict) fits (c.in-Conflict.ensures.walked (begun g (goal.at.returns-in-Conflict g c).In_ok-record)) in (
       checked g (goal.at.returns-in-Conflict g c).After-check verdict met,
       record { task = c.empty.ensures.idle; emptied = c.empty.ensures.emptied; after = record_put s c.args.task c.empty.ensures.idle c.empty.new.table c.empty.ensures.is },
     )
@@ -102,9 +102,9 @@ returns-in-Conflict g c =
 pub returns-in-Overrun : goal.returns-in-Overrun
 returns-in-Overrun g c =
     let s = state c.args.engine.now (g.M.Memory.contents c.args.memory.now) c.args.ring.now c.args.table.now c.args.addresses.now c.args.cells.now in
-    let fits = c.in-ok-record.ensures.addressed.fits.ring in
+    let fits = c.in_ok-record.ensures.addressed.fits.ring in
     let verdict = Overrun c.in-Overrun.compared in
-    let lost = subst (λ (n : ℕ). Checks g.F.Filter n c.args.ring.now c.add-reads.result c.args.engine.now.index c.in-ok-record.record.start verdict) fits (c.in-Overrun.ensures.walked (begun g (goal.at.returns-in-Overrun g c).In-ok-record)) in (
+    let lost = subst (λ (n : ℕ). Checks g.F.Filter n c.args.ring.now c.add-reads.result c.args.engine.now.index c.in_ok-record.record.start verdict) fits (c.in-Overrun.ensures.walked (begun g (goal.at.returns-in-Overrun g c).In_ok-record)) in (
       checked g (goal.at.returns-in-Overrun g c).After-check verdict lost,
       record { task = c.empty-in-Overrun.ensures.idle; emptied = c.empty-in-Overrun.ensures.emptied; after = record_put s c.args.task c.empty-in-Overrun.ensures.idle c.empty-in-Overrun.new.table c.empty-in-Overrun.ensures.is },
     )
