@@ -2,7 +2,7 @@
 use cells::refusal::Refusal;
 use std::io;
 
-#[derive(Drop)]
+#[derive(Debug, Drop)]
 pub(crate) enum Fault {
     // A line could not be written.
     Output,

@@ -3,7 +3,7 @@ use cells::refusal::Refusal;
 use std::alloc::AllocError;
 use std::io;
 
-#[derive(Drop)]
+#[derive(Debug, Drop)]
 pub enum Fault {
     // The allocator found no room.
     Room,

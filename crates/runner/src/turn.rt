@@ -44,7 +44,7 @@ fn denied(task: u32, reason: Denial) -> Report
 }
 
 fn answered<C: Face>(task: u32, answer: (C, u32)) -> Report
-    ensures { result ≡ shown task answer.0 answer.1 }
+    ensures { result ≡ C.shown task answer.0 answer.1 }
 {
     let (cell, compared) = answer;
     cell.show(task, compared)
