@@ -2,13 +2,13 @@
 use Rattle.bagger.proofs.holder.open.Goals as goal
 
 pub returns-in-Read : goal.returns-in-Read
-returns-in-Read g c = c.after-read.ensures c.args.transaction.task c.read.ensures.handed
+returns-in-Read g c = c.after_read.ensures c.args.transaction.task c.read.ensures.handed
 
 pub returns-in-Write : goal.returns-in-Write
-returns-in-Write g c = c.after-write.ensures c.args.transaction.task c.write.ensures.handed
+returns-in-Write g c = c.after_write.ensures c.args.transaction.task c.write.ensures.handed
 
 pub returns-in-Commit : goal.returns-in-Commit
-returns-in-Commit g c = c.after-commit.ensures c.args.transaction.task c.commit.ensures.handed
+returns-in-Commit g c = c.after_commit.ensures c.args.transaction.task c.commit.ensures.handed
 
 pub returns-in-Quit : goal.returns-in-Quit
-returns-in-Quit g c = c.after-quit.ensures c.args.transaction.task c.quit.ensures.handed
+returns-in-Quit g c = c.after_quit.ensures c.args.transaction.task c.quit.ensures.handed

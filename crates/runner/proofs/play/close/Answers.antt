@@ -2,8 +2,8 @@ use Rattle.std.proofs.Common.{◌≤◌, refl, arith, rules}
 use Rattle.runner.specs.Runs.{fits, misses}
 use Rattle.runner.proofs.play.close.Goals as goal
 
-pub overflow-mul-result : goal.overflow-mul-result
-overflow-mul-result c =
+pub overflow_mul-result : goal.overflow_mul-result
+overflow_mul-result c =
     let long = c.print.ensures.short in
     let put = c.in-Some.ensures.writes.behind in
     let small : c.in-Some.end ≤ 65600 = omega (arith, long, put, c.requires) in

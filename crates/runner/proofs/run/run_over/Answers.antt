@@ -8,8 +8,8 @@ use Rattle.runner.proofs.run.run_over.Goals as goal
 
 pub returns-in-Ok : goal.returns-in-Ok
 returns-in-Ok g c = record {
-  run = accepted _ c.in-Ok.ensures.step c.play-on.ensures.run;
-  whole = c.play-on.ensures.whole;
+  run = accepted _ c.in-Ok.ensures.step c.play_on.ensures.run;
+  whole = c.play_on.ensures.whole;
 }
 
 pub returns-in-Err : goal.returns-in-Err

@@ -6,11 +6,11 @@ use Rattle.runner.proofs.Going.{started, front_of, front_length, logs_fit}
 use Rattle.runner.proofs.Zeros.{zero_tags}
 use Rattle.runner.proofs.run.run_tags.Goals as goal
 
-pub slice-bounds-addresses-end : goal.slice-bounds-addresses-end
-slice-bounds-addresses-end c = let fit : c.args.settings.tasks * c.args.settings.pairs ≤ 128 = logs_fit c.args.settings.tasks c.args.settings.pairs (search rules) (search rules) in search rules
+pub slice_bounds-addresses-end : goal.slice_bounds-addresses-end
+slice_bounds-addresses-end c = let fit : c.args.settings.tasks * c.args.settings.pairs ≤ 128 = logs_fit c.args.settings.tasks c.args.settings.pairs (search rules) (search rules) in search rules
 
-pub slice-bounds-cells-end : goal.slice-bounds-cells-end
-slice-bounds-cells-end c = let fit : c.args.settings.tasks * c.args.settings.pairs ≤ 128 = logs_fit c.args.settings.tasks c.args.settings.pairs (search rules) (search rules) in search rules
+pub slice_bounds-cells-end : goal.slice_bounds-cells-end
+slice_bounds-cells-end c = let fit : c.args.settings.tasks * c.args.settings.pairs ≤ 128 = logs_fit c.args.settings.tasks c.args.settings.pairs (search rules) (search rules) in search rules
 
 pub returns : goal.returns
 returns c =
@@ -24,6 +24,6 @@ returns c =
           (front_of 128 (w.tasks * w.pairs) (tag_made 0 0) fit)
           (front_length 64 w.slots c.vacant-ring.result c.requires.1.0)
           (front_length 8 w.tasks c.emptied-table.result c.requires.1.1.0)
-          c.run-over.ensures.run;
-      whole = c.run-over.ensures.whole;
+          c.run_over.ensures.run;
+      whole = c.run_over.ensures.whole;
     }
