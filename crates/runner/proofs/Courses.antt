@@ -15,7 +15,6 @@ use Rattle.runner.specs.Law.{Unmade, Outcome, each, broken}
 use Rattle.runner.specs.Lines.{refusal}
 use Rattle.runner.specs.Runs.{NoLine, Asked}
 use Rattle.runner.specs.Texts.{line_count, Lines, none as no_more, more as one_more, Schedule, makes as made-lines}
-use Rattle.runner.proofs.Agreement.{over}
 use Rattle.runner.proofs.LineCounts.{count-append, count-spelled, count-printed}
 use Rattle.runner.proofs.Starting.{StartSays, unmade_says, start_cut, made_says}
 use Rattle.runner.proofs.Says.{stop, Says, silent, breaks_off, cut_off, says}

@@ -1,5 +1,5 @@
 -- From what the reader and the printer answer to the run.
-use Rattle.std.proofs.Common.{◌≡◌, ℕ, ◌+◌, ◌-◌, ◌*◌, ◌%◌, ◌<◌, ◌≤◌, List, [], ◌∷◌, ◌++◌, length, take, drop, replicate, sym, refl, ap, ◌∙◌, subst, arith, length-append, length-take}
+use Rattle.std.proofs.Common.{◌≡◌, ℕ, ◌+◌, ◌-◌, ◌*◌, ◌%◌, ◌<◌, ◌≤◌, List, [], ◌++◌, length, take, drop, replicate, sym, refl, ap, ◌∙◌, subst, arith, length-append, length-take}
 use Rattle.std.proofs.lemmas.List.{drop_all, length-drop, take-replicate, length-replicate, nil_from_length}
 use Rattle.std.proofs.lemmas.Nat.{mul-le}
 use Rattle.filters.specs.declared.filter.Filter.{Ghosts}
@@ -8,7 +8,7 @@ use Rattle.lines.specs.declared.command.Command.{Command}
 use Rattle.lines.specs.declared.command.Expected.TheVariants.{First, After}
 use Rattle.lines.specs.declared.report.Report.{Report}
 use Rattle.lines.specs.declared.report.Report.TheVariants.{Broken}
-use Rattle.lines.specs.Grammar.{spelled, Allowed}
+use Rattle.lines.specs.Grammar.{spelled}
 use Rattle.lines.specs.Printed.{printed, room, Put, Full}
 use Rattle.lines.specs.Reading.{CommandAt, BrokenAt}
 use Rattle.engine.specs.declared.engine.Settings.{Settings}

@@ -12,13 +12,13 @@ use Rattle.lines.specs.Grammar.{spelled, Allowed}
 use Rattle.lines.specs.Printed.{printed}
 use Rattle.lines.proofs.Spellings.{spelled-unique}
 use Rattle.runner.specs.Law.{output, Outcome, long, unmade, each, broken, Agreed, alike as both-alike, over as both-over, first_cut as cut-first, second_cut as cut-second, Law}
-use Rattle.runner.specs.Runs.{NoLine, from, wanted, word_made, word_shown, tag_made, tag_shown, prints, FirstLine, Runs, long as run_long, empty, breaks, starts}
+use Rattle.runner.specs.Runs.{NoLine, from, wanted, word_made, word_shown, tag_made, tag_shown, FirstLine, Runs, long as run_long, empty, breaks, starts}
 use Rattle.runner.specs.Texts.{line_count, WholeLines, Schedule, nothing as no_lines}
 use Rattle.runner.proofs.Agreement.{AgreedLines, alike, over, first_cut, second_cut}
 use Rattle.runner.proofs.LineCounts.{count-append, count-spelled, first_line, begun}
 use Rattle.runner.proofs.Starting.{Heard, closing, StartSays, start_heard, start_agree}
 use Rattle.runner.proofs.Courses.{StartCourse, is_unmade, is_made, start_course, made_outcome}
-use Rattle.runner.proofs.Says.{nothing, prints_output, stop, says}
+use Rattle.runner.proofs.Says.{nothing, prints_output, stop}
 
 module _ {F : Type 0} (Φ : Ghosts F) where
   -- What the run behind a first line prints, over words or over tags. No other line makes an engine.

@@ -2,7 +2,6 @@
 use Rattle.std.proofs.Common.{◌≡◌, ℕ, List, length, replicate, sym, ◌∙◌}
 use Rattle.cells.specs.declared.refusal.Refusal.{Refusal}
 use Rattle.cells.specs.declared.refusal.Refusal.TheVariants.{RingLength, TaskCount, LogLength, LastPlace, MemorySize, ArrayLength, TaskNumber, Address, BrokenLine, OutputFull, Torn, PhaseForbids, LogFull, PlacesSpent, RingFull, MustWait}
-use Rattle.cells.specs.Refusals.{number}
 use Rattle.filters.specs.declared.filter.Filter.{Ghosts}
 use Rattle.forced.specs.Play.{Exact, blank}
 use Rattle.forced.proofs.Made.{vacant, made_is, refused_once}

@@ -1,5 +1,5 @@
 -- What the run behind a first line prints.
-use Rattle.std.proofs.Common.{◌≡◌, ℕ, suc, ◌+◌, Bool, true, false, List, [], ◌++◌, sym, refl, ap, subst, arith}
+use Rattle.std.proofs.Common.{◌≡◌, ℕ, suc, Bool, true, false, List, [], ◌++◌, sym, refl, ap, subst, arith}
 use Rattle.cells.specs.declared.refusal.Refusal.{Refusal}
 use Rattle.filters.specs.declared.filter.Filter.{Ghosts}
 use Rattle.forced.specs.Play.{Exact}
@@ -8,7 +8,7 @@ use Rattle.lines.specs.declared.report.Report.{Report}
 use Rattle.lines.specs.declared.report.Report.TheVariants.{Made}
 use Rattle.lines.specs.Printed.{printed}
 use Rattle.rules.specs.State.{State}
-use Rattle.runner.specs.Law.{output, Unmade}
+use Rattle.runner.specs.Law.{Unmade}
 use Rattle.runner.specs.Lines.{refusal}
 use Rattle.runner.specs.Runs.{from, Closes, fits, misses, Asked, handed, lacks, prints, Over, refused, accepted, Starts}
 use Rattle.runner.specs.Texts.{line_count, WholeLines}
@@ -16,7 +16,7 @@ use Rattle.runner.proofs.Agreement.{AgreedLines, over, first_cut, second_cut, li
 use Rattle.runner.proofs.Going.{put_length}
 use Rattle.runner.proofs.LineCounts.{count-printed}
 use Rattle.runner.proofs.Makings.{MadeOf, refused_or_made, unmade_once, made_once}
-use Rattle.runner.proofs.Says.{Prints, nothing, prints_more, prints_last, Says, says, spoken}
+use Rattle.runner.proofs.Says.{Prints, nothing, prints_more, prints_last, Says, spoken}
 
 -- What a run says from the start of its output, and that the output holds just that.
 pub record Heard (Said : List ℕ → Bool → Type 0) (bytes after : List ℕ) (answer : ℕ) : Type 0 where

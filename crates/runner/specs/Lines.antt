@@ -1,8 +1,7 @@
 -- What a line of the schedule asks of the engine, and what is printed of the answer.
-use Rattle.std.specs.Prelude.{◌≡◌, ℕ, Some, None, Ok, Err, Option, Result}
+use Rattle.std.specs.Prelude.{◌≡◌, ℕ, Some, None, Ok, Err, Option}
 use Rattle.cells.specs.declared.refusal.Refusal.{Refusal}
 use Rattle.cells.specs.declared.refusal.Refusal.TheVariants.{RingLength, TaskCount, LogLength, LastPlace, MemorySize, ArrayLength, TaskNumber, Address, BrokenLine, OutputFull, Torn, PhaseForbids, LogFull, PlacesSpent, RingFull, MustWait}
-use Rattle.cells.specs.Refusals.{number}
 use Rattle.filters.specs.declared.filter.Filter.{Ghosts}
 use Rattle.lines.specs.declared.command.Command.{Command}
 use Rattle.lines.specs.declared.command.Command.TheVariants.{Make, Begin, Read, Write, WriteTag, Commit, Work, Quit}
@@ -12,7 +11,7 @@ use Rattle.rules.specs.declared.answer.Denial.{Denial}
 use Rattle.rules.specs.declared.answer.Denial.TheVariants.{Refused, Conflict, Overrun}
 use Rattle.rules.specs.declared.answer.Worked.{Worked}
 use Rattle.rules.specs.declared.answer.Worked.TheVariants.{Left, Done}
-use Rattle.rules.specs.Calls.{Act, begin, read, write, commit, work, quit, Call, by, ActReply}
+use Rattle.rules.specs.Calls.{Act, begin, read, write, commit, work, quit, by, ActReply}
 use Rattle.rules.specs.State.{State}
 use Rattle.rules.specs.Steps.{Step}
 

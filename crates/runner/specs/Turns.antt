@@ -1,5 +1,5 @@
 -- What one line of the schedule leads to.
-use Rattle.std.specs.Prelude.{◌≡◌, ℕ, ◌+◌, ◌*◌, ◌%◌, ◌<◌, ◌≤◌, List, [], ◌∷◌, length}
+use Rattle.std.specs.Prelude.{◌≡◌, ℕ, ◌+◌, ◌*◌, ◌%◌, ◌<◌, ◌≤◌, List, length}
 use Rattle.filters.specs.declared.filter.Filter.{Ghosts}
 use Rattle.lines.specs.declared.command.Area.{Area}
 use Rattle.lines.specs.declared.report.Report.{Report}

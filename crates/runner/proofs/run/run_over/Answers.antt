@@ -1,7 +1,6 @@
 use Rattle.std.proofs.Common.{ap, subst, arith}
 use Rattle.lines.specs.Printed.{room}
 use Rattle.lines.specs.declared.report.Report.{Report}
-use Rattle.engine.specs.View.{view}
 use Rattle.runner.specs.Runs.{Closes, from, refused, accepted}
 use Rattle.runner.proofs.Pace.{refusal_room}
 use Rattle.runner.proofs.run.run_over.Goals as goal

@@ -1,7 +1,7 @@
 use Rattle.std.proofs.Common.{◌*◌, ◌≤◌, ◌∙◌, arith, rules}
 use Rattle.filters.specs.contracts.small.SmallFilter.TheImpl.{ghosts as small}
-use Rattle.lines.specs.declared.command.Area.TheVariants.{Words, Tags}
-use Rattle.runner.specs.Runs.{word_made, word_shown, tag_made, tag_shown, from}
+use Rattle.lines.specs.declared.command.Area.TheVariants.{Tags}
+use Rattle.runner.specs.Runs.{tag_made, tag_shown}
 use Rattle.runner.proofs.Going.{started, front_of, front_length, logs_fit}
 use Rattle.runner.proofs.Zeros.{zero_tags}
 use Rattle.runner.proofs.run.run_tags.Goals as goal
