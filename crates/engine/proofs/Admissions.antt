@@ -1,5 +1,5 @@
 -- What the first checks refuse, all of them refuse.
-use Rattle.std.proofs.Common.{◌≡◌, ℕ, ◌<◌, Err, Option, arith}
+use Rattle.std.proofs.Common.{ℕ, Err, Option, arith}
 use Rattle.cells.specs.declared.refusal.Refusal.{Refusal}
 use Rattle.cells.specs.declared.refusal.Refusal.TheVariants.{RingLength, TaskCount, LogLength, LastPlace, MemorySize, ArrayLength, TaskNumber, Address, BrokenLine, OutputFull, Torn, PhaseForbids, LogFull, PlacesSpent, RingFull, MustWait}
 use Rattle.filters.specs.declared.filter.Filter.{Ghosts}

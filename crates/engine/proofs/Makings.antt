@@ -1,5 +1,5 @@
 -- What a making refuses, and the chain that an accepted one starts.
-use Rattle.std.proofs.Common.{◌≡◌, ℕ, ◌<◌, ◌≤◌, List, Ok, Err, Result, arith}
+use Rattle.std.proofs.Common.{ℕ, ◌<◌, ◌≤◌, Ok, Err, Result, arith}
 use Rattle.cells.specs.declared.refusal.Refusal.{Refusal}
 use Rattle.cells.specs.declared.refusal.Refusal.TheVariants.{RingLength, TaskCount, LogLength, LastPlace, MemorySize, ArrayLength, TaskNumber, Address, BrokenLine, OutputFull, Torn, PhaseForbids, LogFull, PlacesSpent, RingFull, MustWait}
 use Rattle.cells.specs.Refusals.{number}
@@ -10,7 +10,6 @@ use Rattle.rules.specs.State.{State, Fits}
 use Rattle.promise.proofs.Promised.{stands}
 use Rattle.promise.proofs.Promised.Laws.{Lawful}
 use Rattle.engine.specs.declared.engine.Engine.{Engine}
-use Rattle.engine.specs.declared.engine.Settings.{Settings}
 use Rattle.engine.specs.Limits.{Limited, Limits}
 use Rattle.engine.specs.View.{Begun, MakeStep}
 

@@ -1,5 +1,5 @@
 -- Over the small filter the played step is a step: the rules leave no call of a task without an answer.
-use Rattle.std.proofs.Common.{◌≡◌, ℕ, ◌+◌, ◌*◌, ◌<◌, ◌≤◌, Bool, true, false, cond, ltb, List, length, Some, None, Ok, Err, Option, Result, sym, refl, ap, inl, inr, ⊎_elim, arith}
+use Rattle.std.proofs.Common.{◌≡◌, ℕ, ◌+◌, ◌<◌, Bool, true, false, cond, ltb, List, length, Some, None, Ok, Err, Option, Result, refl, ap, inl, inr, ⊎_elim, arith}
 use Rattle.std.proofs.lemmas.Bool.{cases_Bool, cases_lt, ltb-true, ltb-false}
 use Rattle.std.specs.List.{slice_get}
 use Rattle.cells.specs.declared.refusal.Refusal.{Refusal}
@@ -17,7 +17,6 @@ use Rattle.rules.specs.declared.table.Phase.TheVariants.{Idle, Open}
 use Rattle.rules.specs.declared.table.TaskRecord.{TaskRecord}
 use Rattle.rules.specs.Calls.{Act, begin, read, write, commit, work, quit, by, kind}
 use Rattle.rules.specs.Check.{Checks}
-use Rattle.rules.specs.Lists.{At}
 use Rattle.rules.specs.Records.{Blank, after_read}
 use Rattle.rules.specs.State.{State, Fits, base, with_record}
 use Rattle.rules.specs.Steps.{Empties, ReadChecks, CommitChecks, ActStep, Step}

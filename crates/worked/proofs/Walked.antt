@@ -1,13 +1,12 @@
 -- Begin's walk, the search of a log and the check's walk, as they are played, are what the rules say.
-use Rattle.std.proofs.Common.{◌≡◌, ℕ, zero, suc, ◌+◌, ◌-◌, ◌<◌, ◌≤◌, Bool, true, false, cond, eqb, ltb, List, get_or, Some, None, Option, sym, refl, ap, ◌∙◌, subst, inl, inr, ⊎_elim, arith}
+use Rattle.std.proofs.Common.{◌≡◌, ℕ, zero, suc, ◌+◌, ◌-◌, ◌≤◌, Bool, true, false, cond, eqb, ltb, List, get_or, Some, None, Option, sym, refl, ap, ◌∙◌, subst, inl, inr, ⊎_elim, arith}
 use Rattle.std.proofs.lemmas.Bool.{both_ways, cases_eq, eqb-true, ltb-true, ltb-false}
 use Rattle.filters.specs.declared.filter.Filter.{Ghosts}
-use Rattle.rules.specs.declared.verdict.Verdict.{Verdict}
-use Rattle.rules.specs.declared.verdict.Verdict.TheVariants.{Passed, Conflict, Overrun}
+use Rattle.rules.specs.declared.verdict.Verdict.TheVariants.{Conflict, Overrun}
 use Rattle.rules.specs.declared.ring.Entry.{Entry}
 use Rattle.rules.specs.declared.ring.Status.{Status}
 use Rattle.rules.specs.declared.ring.Status.TheVariants.{Writing, Complete}
-use Rattle.rules.specs.Check.{Advanced, Asked, AllAsked, Checks}
+use Rattle.rules.specs.Check.{Advanced, AllAsked, Checks}
 use Rattle.rules.specs.Logs.{First}
 use Rattle.rules.specs.Places.{Present, Pending, Settled}
 use Rattle.rules.proofs.Walks.{complete_settled, advanced_pending, advanced_finished}

@@ -10,7 +10,7 @@ use Rattle.rules.specs.Check.{AllAsked, Advanced}
 use Rattle.rules.specs.Lists.{At}
 use Rattle.rules.specs.Logs.{Lacks, First}
 use Rattle.rules.specs.Records.{after_read}
-use Rattle.rules.specs.State.{State, base, with_record}
+use Rattle.rules.specs.State.{State, with_record}
 use Rattle.rules.specs.Steps.{ReadsLogged, ReadsMemory}
 use Rattle.promise.proofs.Promised.Accepting.{read_open, read_inside}
 use Rattle.promise.proofs.Promised.Invariant.{Inv}

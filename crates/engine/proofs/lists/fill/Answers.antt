@@ -1,4 +1,4 @@
-use Rattle.std.proofs.Common.{◌≡◌, ℕ, ◌<◌, List, length, set, sym, ◌∙◌, subst, ⊎_elim, arith}
+use Rattle.std.proofs.Common.{List, subst, ⊎_elim, arith}
 use Rattle.std.proofs.lemmas.Bool.{cases_eq}
 use Rattle.rules.specs.Lists.{At}
 use Rattle.rules.proofs.AtLaws.{at_set_same, at_set_other}

@@ -1,4 +1,4 @@
-use Rattle.std.proofs.Common.{◌<◌, subst, ⊎_elim, arith}
+use Rattle.std.proofs.Common.{subst, ⊎_elim, arith}
 use Rattle.std.proofs.lemmas.Bool.{cases_eq}
 use Rattle.rules.specs.Places.{Pending}
 use Rattle.walks.proofs.places.settled.Goals as goal

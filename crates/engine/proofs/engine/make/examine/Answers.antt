@@ -1,4 +1,4 @@
-use Rattle.std.proofs.Common.{ℕ, Err, refl, subst, arith}
+use Rattle.std.proofs.Common.{ℕ, Err, refl, subst}
 use Rattle.std.proofs.lemmas.Result.{err_from_is_err_and}
 use Rattle.engine.specs.Limits.{Limited, Limits}
 use Rattle.engine.specs.View.{asked}

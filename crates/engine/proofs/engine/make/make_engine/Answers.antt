@@ -1,9 +1,6 @@
-use Rattle.std.proofs.Common.{◌≡◌, ℕ, List, sym, refl, ap, subst}
-use Rattle.rules.specs.declared.ring.Entry.{Entry}
-use Rattle.rules.specs.declared.table.TaskRecord.{TaskRecord}
+use Rattle.std.proofs.Common.{sym, refl, subst}
 use Rattle.rules.specs.Making.{Vacant}
 use Rattle.rules.specs.Records.{Emptied}
-use Rattle.rules.specs.State.{State}
 use Rattle.engine.specs.View.{asked}
 use Rattle.rules.proofs.Frames.{made_over}
 use Rattle.rules.proofs.Limits.{makes_no_fault}

@@ -1,4 +1,4 @@
-use Rattle.std.proofs.Common.{◌≡◌, ℕ, ◌+◌, ◌-◌, ◌*◌, ◌<◌, ◌≤◌, length, take, sum_by, sym, refl, ap, ◌∙◌, subst, ⊎_elim, arith}
+use Rattle.std.proofs.Common.{ℕ, ◌*◌, sum_by, refl, ap, ◌∙◌, subst, arith}
 use Rattle.std.proofs.lemmas.List.{take_all}
 use Rattle.rules.specs.declared.table.TaskRecord.{TaskRecord}
 use Rattle.rules.specs.Steps.{owes}
@@ -7,7 +7,6 @@ use Rattle.engine.specs.View.{state}
 use Rattle.rules.proofs.AtLaws.{at_below_more}
 use Rattle.rules.proofs.Counts.{torn_refuses, whole_accepts, owes_more, owes_idle, owes_committed}
 use Rattle.engine.proofs.Admissions.{lengths_refuse}
-use Rattle.engine.proofs.engine.outstanding.count_owed.Given as given
 use Rattle.engine.proofs.engine.outstanding.count_owed.Goals as goal
 use Rattle.engine.proofs.engine.outstanding.count_owed.Goals.{in-Committed, in-Idle}
 

@@ -1,12 +1,10 @@
-use Rattle.std.proofs.Common.{ℕ, ◌+◌, ◌*◌, ◌≤◌, sym, refl, subst, inl, inr, arith, rules}
+use Rattle.std.proofs.Common.{ℕ, ◌*◌, ◌≤◌, refl, subst, inl, inr, arith}
 use Rattle.std.proofs.lemmas.Result.{err_from_is_err_and}
 use Rattle.rules.specs.declared.verdict.Verdict.{Verdict}
 use Rattle.rules.specs.declared.verdict.Verdict.TheVariants.{Passed, Conflict, Overrun}
 use Rattle.rules.specs.declared.table.CallKind.TheVariants.{Read}
 use Rattle.rules.specs.Calls.{read}
 use Rattle.rules.specs.Check.{Checks}
-use Rattle.rules.specs.Lists.{At}
-use Rattle.rules.specs.Logs.{Lacks, First}
 use Rattle.rules.specs.Records.{after_read}
 use Rattle.rules.specs.Steps.{ReadChecks}
 use Rattle.engine.specs.View.{state}
