@@ -12,7 +12,7 @@ mod work;
 mod write;
 
 // What making is asked for.
-#[derive(Clone, Copy)]
+#[derive(Clone, Copy, PartialEq, Eq, Debug)]
 pub struct Settings {
     // The ring's length: 2 to 1,024 slots.
     pub slots: u32,

@@ -1,13 +1,13 @@
 // What a line of a schedule text asks for.
 
 // What a cell of the memory holds: a word, or a word with its quality.
-#[derive(Clone, Copy)]
+#[derive(Clone, Copy, Debug, PartialEq, Eq)]
 pub enum Area {
     Words,
     Tags,
 }
 
-#[derive(Clone, Copy)]
+#[derive(Clone, Copy, Debug, PartialEq, Eq)]
 pub enum Command {
     Make {
         area: Area,
@@ -47,14 +47,14 @@ pub enum Command {
 }
 
 // Where a line stands: first, or behind the line that made the memory.
-#[derive(Clone, Copy)]
+#[derive(Clone, Copy, Debug, PartialEq, Eq)]
 pub enum Expected {
     First,
     After(Area),
 }
 
 // What stands next in a text.
-#[derive(Clone, Copy)]
+#[derive(Clone, Copy, Debug, PartialEq, Eq)]
 pub enum Next {
     End,
     Line(Command),

@@ -6,3 +6,5 @@ mod fields;
 mod line;
 pub mod reader;
 pub mod report;
+#[cfg(test)]
+mod tests;

@@ -6,7 +6,7 @@ ghost use Rattle.lines.specs.Printed.{printed, room, Put, Full};
 use crate::command::Area;
 use crate::line::Line;
 
-#[derive(Clone, Copy)]
+#[derive(Clone, Copy, Debug, PartialEq, Eq)]
 pub enum Report {
     Made(Area),
     Began {

@@ -53,10 +53,11 @@ module _ {F C : Type 0} (Φ : Ghosts F) (made : ℕ → ℕ → C) (shown : ℕ 
     }
 
     -- A line whose report fits lets the run go on behind it.
-    pub gone_on : (text' : List ℕ) → text' ≡ text → (bytes' : List ℕ) (behind : ℕ) → Put (printed report) written bytes bytes' behind → GoesOn Φ made shown area line written s (drop at text) bytes behind s' (drop end text') bytes'
-    gone_on text' same bytes' behind put = record {
+    pub gone_on : (text' : List ℕ) → text' ≡ text → (bytes' : List ℕ) (behind : ℕ) → Put (printed report) written bytes bytes' behind → length (printed report) ≤ 64 → GoesOn Φ made shown area line written s (drop at text) bytes behind s' (drop end text') bytes'
+    gone_on text' same bytes' behind put least = record {
       on = λ after answer rest. goes c (drop end text') report behind stands.allowed (stands.spelt ∙ ap (λ (t : List ℕ). spelled c ++ drop end t) (sym same)) played put rest;
       shorter = omega (arith, length-drop at text, length-drop end text', ap length same, stands.forward, stands.within);
+      small = omega (arith, put.behind, least);
       paced = omega (arith, put.behind, pace, ap (λ (t : List ℕ). length (drop end t)) same);
     }
 

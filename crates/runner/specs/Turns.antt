@@ -17,6 +17,7 @@ module _ {F C : Type 0} (Φ : Ghosts F) (made : ℕ → ℕ → C) (shown : ℕ 
   pub record GoesOn (s : State F C) (text bytes : List ℕ) (end : ℕ) (s' : State F C) (rest bytes' : List ℕ) : Type 0 where
     pub on : (after : List ℕ) (answer : ℕ) → Plays Φ made shown area s' (line + 1) rest (from bytes' end) after answer → Plays Φ made shown area s line text (from bytes at) after answer
     pub shorter : length rest < length text
+    pub small : end ≤ at + 64
     pub paced : end + 7 * length rest ≤ at + 7 * length text
 
   -- The run is over.

@@ -31,7 +31,7 @@ pub enum Turn {
 
 // Prints the last line of a run.
 pub(crate) fn close(report: Report, output: &mut [u8], at: usize) -> u64
-    requires { at ≤ 65536 }
+    requires { at ≤ 524288 }
     ensures closes { Closes report (from output.old at) output.new result }
     ensures whole { at + room report ≤ length output.old → result % 16 ≡ 0 }
 {
@@ -52,7 +52,7 @@ fn play_line<C: Face, M: Memory<Cell = C>, F: Filter>(
     output: &mut [u8],
     at: usize,
 ) -> Turn
-    requires { at ≤ 65536 }
+    requires { at ≤ 524288 }
     ensures turned { Turned F.Filter C.Face.made C.Face.shown area line at (view engine.old (M.contents memory.old) arrays.old) (drop reader.old.at reader.old.text.now) output.old result (view engine.new (M.contents memory.new) arrays.new) (drop reader.new.at reader.new.text.now) output.new }
     ensures text { reader.new.text.now ≡ reader.old.text.now }
     ensures loans { SameLoans arrays.old arrays.new }
@@ -80,7 +80,7 @@ pub(crate) fn play<C: Face, M: Memory<Cell = C>, F: Filter>(
     output: &mut [u8],
     written: usize,
 ) -> u64
-    requires { written + 7 * length (drop reader.old.at reader.old.text.now) ≤ 65536 }
+    requires { written + 64 * length (drop reader.old.at reader.old.text.now) ≤ 524288 }
     ensures plays { Plays F.Filter C.Face.made C.Face.shown area (view engine.old (M.contents memory.old) arrays.old) 2 (drop reader.old.at reader.old.text.now) (from output.old written) output.new result }
     ensures roomy { Roomy written (drop reader.old.at reader.old.text.now) output.old result }
 {

@@ -173,8 +173,7 @@ fn start(reader: &mut Reader<'_>, command: Command, output: &mut [u8]) -> u64
 }
 
 // Plays the schedule in `input` and prints into `output`. The answer is the number of bytes written × 16, plus 10 where the next line does not fit.
-#[unsafe(no_mangle)]
-pub extern "C" fn dohvalin_run(input: &[u8], output: &mut [u8]) -> u64
+pub fn dohvalin_run(input: &[u8], output: &mut [u8]) -> u64
     ensures runs { Runs small input.now output.old output.new result }
     ensures suffices { 65536 ≤ length output.old → result % 16 ≡ 0 }
     ensures law { Law small input.now output.old output.new result }

@@ -3,5 +3,4 @@
 
 mod asking;
 pub mod check;
-pub mod places;
-pub mod waiting;
+pub mod ring;

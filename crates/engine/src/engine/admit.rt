@@ -12,7 +12,7 @@ use cells::refusal::Refusal;
 use filters::filter::Filter;
 use rules::ring::Entry;
 use rules::table::{CallKind, Phase, TaskRecord, allowed};
-use walks::places::unfinished;
+use walks::ring::unfinished;
 
 // Whether the memory and the arrays have the lengths that the engine's record says.
 pub(crate) fn fits<M: Memory, F: Filter>(

@@ -13,7 +13,7 @@ use cells::refusal::Refusal;
 use filters::filter::Filter;
 use rules::ring::Entry;
 use rules::table::{CallKind, TaskRecord};
-use walks::places::settled;
+use walks::ring::settled;
 
 impl Engine {
     // The answer is the start.

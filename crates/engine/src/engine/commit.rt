@@ -21,7 +21,7 @@ use rules::ring::Entry;
 use rules::table::{CallKind, Phase, TaskRecord};
 use rules::verdict::Verdict;
 use walks::check::check;
-use walks::places::unfinished;
+use walks::ring::unfinished;
 
 impl Engine {
     // The answer is the place, if cells were logged, and the number of filters compared.

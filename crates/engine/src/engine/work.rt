@@ -18,7 +18,7 @@ use filters::filter::Filter;
 use rules::answer::Worked;
 use rules::ring::Entry;
 use rules::table::{CallKind, TaskRecord};
-use walks::waiting::awaited;
+use walks::ring::awaited;
 
 impl Engine {
     // The answer is how many cells are left, or done with the place.

@@ -6,7 +6,7 @@ pub overflow_mul-result : goal.overflow_mul-result
 overflow_mul-result c =
     let long = c.print.ensures.short in
     let put = c.in-Some.ensures.writes.behind in
-    let small : c.in-Some.end ≤ 65600 = omega (arith, long, put, c.requires) in
+    let small : c.in-Some.end ≤ 524352 = omega (arith, long, put, c.requires) in
     search rules
 
 pub returns-in-Some : goal.returns-in-Some

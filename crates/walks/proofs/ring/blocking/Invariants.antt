@@ -1,6 +1,6 @@
 use Rattle.std.proofs.Common.{ℕ, ◌-◌, ◌<◌, ◌≤◌, length}
 use Rattle.rules.specs.Faults.{Meets}
-use Rattle.walks.proofs.waiting.blocking.Given as goal
+use Rattle.walks.proofs.ring.blocking.Given as goal
 
 -- No place passed blocks.
 abbrev pub invariant-loop-older : goal.invariant-loop-older

@@ -1,5 +1,5 @@
 use Rattle.std.proofs.Common.{rules}
-use Rattle.walks.proofs.places.unfinished.Goals as goal
+use Rattle.walks.proofs.ring.unfinished.Goals as goal
 
 pub returns-in-Writing : goal.returns-in-Writing
 returns-in-Writing g c = record {

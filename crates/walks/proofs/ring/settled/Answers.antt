@@ -1,7 +1,7 @@
 use Rattle.std.proofs.Common.{subst, ⊎_elim, arith}
 use Rattle.std.proofs.lemmas.Bool.{cases_eq}
 use Rattle.rules.specs.Places.{Pending}
-use Rattle.walks.proofs.places.settled.Goals as goal
+use Rattle.walks.proofs.ring.settled.Goals as goal
 
 pub loop-start-preserved : goal.loop-start-preserved
 loop-start-preserved g c = (

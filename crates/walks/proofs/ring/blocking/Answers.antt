@@ -1,6 +1,6 @@
 use Rattle.std.proofs.Common.{arith}
 use Rattle.rules.proofs.Walks.{free_more}
-use Rattle.walks.proofs.waiting.blocking.Goals as goal
+use Rattle.walks.proofs.ring.blocking.Goals as goal
 
 pub loop-older-init : goal.loop-older-init
 loop-older-init g c = (omega arith, λ i above below. absurd (omega arith))

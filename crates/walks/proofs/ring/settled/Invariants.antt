@@ -1,6 +1,6 @@
 use Rattle.std.proofs.Common.{ℕ, ◌<◌, ◌≤◌, length}
 use Rattle.rules.specs.Places.{Pending}
-use Rattle.walks.proofs.places.settled.Given as goal
+use Rattle.walks.proofs.ring.settled.Given as goal
 
 -- Every place above is unfinished.
 abbrev pub invariant-loop-start : goal.invariant-loop-start

@@ -1,5 +1,5 @@
 use Rattle.rules.proofs.Walks.{decide_meets}
-use Rattle.walks.proofs.waiting.blocks.Goals as goal
+use Rattle.walks.proofs.ring.blocks.Goals as goal
 
 pub returns : goal.returns
 returns g c =
