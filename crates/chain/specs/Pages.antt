@@ -2,7 +2,7 @@
 use Rattle.std.specs.Prelude.{◌≡◌, ℕ, zero, suc, ◌<◌, Bool, true, false, cond, not, ◌⊎◌, List, [], ◌∷◌, ◌++◌, length, set, replicate, is_some, Some, None, vec_items, fold, sum_by, count_by, Option, ◌==◌, ◌≢◌, slice_index, slice_index_or, slice_set}
 use Rattle.chain.specs.declared.book.Page.{Page}
 use Rattle.chain.specs.declared.book.Pair.{Pair}
-use Rattle.std.specs.List.{ContainsAt as Has, AllByRecursion as All}
+use Rattle.std.specs.List.{ContainsAt, AllByRecursion}
 
 -- No pair of the log has this address.
 abbrev pub Absent : List Pair → ℕ → Type 0
@@ -21,7 +21,7 @@ Logged log p after =
 
 -- Every pair is a cell of its address.
 abbrev pub Agree : List Pair → List ℕ → Type 0
-Agree answers cells = All (λ p. slice_index cells p.address ≡ p.cell) answers
+Agree answers cells = AllByRecursion (λ p. slice_index cells p.address ≡ p.cell) answers
 
 -- The page is a committed writer that is not finished.
 abbrev pub unfinished : Page → Bool
@@ -65,5 +65,5 @@ Busy p a = (unfinished p ≡ true) × (Absent (vec_items p.log) a → ⊥)
 -- An unfinished writer's log has the address.
 pub record Writing (ps : List Page) (a : ℕ) : Type 0 where
   pub page : Page
-  pub listed : Has ps page
+  pub listed : ContainsAt ps page
   pub busy : Busy page a

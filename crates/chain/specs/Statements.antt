@@ -3,7 +3,7 @@ use Rattle.std.specs.Prelude.{◌≡◌, ℕ, ◌-◌, ◌<◌, ◌⊎◌, List,
 use Rattle.chain.specs.declared.book.Page.{Page}
 use Rattle.chain.specs.declared.book.Pair.{Pair}
 use Rattle.chain.specs.Pages.{Agree, Writing, after, writers}
-use Rattle.std.specs.List.{AllByRecursion as All}
+use Rattle.std.specs.List.{AllByRecursion}
 
 -- A cell in no unfinished writer's log holds what the committed logs give.
 abbrev pub LaidAt : List Page → List ℕ → ℕ → Type 0
@@ -22,4 +22,4 @@ AtItsTime ps p = Agree (vec_items p.answers) (after ps p.seen) × AgreeBefore ps
 
 -- Every page's answers from memory are the cells of one moment.
 abbrev pub OneSnapshot : List Page → Type 0
-OneSnapshot ps = All (AtItsTime ps) ps
+OneSnapshot ps = AllByRecursion (AtItsTime ps) ps

@@ -19,7 +19,7 @@ pub enum Answer {
 }
 
 impl Answer {
-    pub(crate) fn is_refused(self) -> bool {
+    pub fn is_refused(self) -> bool {
         match self {
             Answer::Refused(_) => true,
             _ => false,
@@ -27,7 +27,7 @@ impl Answer {
     }
 
     // Whether a work was accepted.
-    pub(crate) fn is_work(self) -> bool {
+    pub fn is_work(self) -> bool {
         match self {
             Answer::Left { cells: _ } | Answer::Done { place: _ } => true,
             _ => false,

@@ -64,19 +64,19 @@ impl Page {
         }
     }
 
-    pub(crate) fn seen(&self) -> usize
+    pub fn seen(&self) -> usize
         ensures { result ≡ self.now.seen }
     {
         self.seen
     }
 
-    pub(crate) fn place(&self) -> Option<usize>
+    pub fn place(&self) -> Option<usize>
         ensures { result ≡ self.now.place }
     {
         self.place
     }
 
-    pub(crate) fn is_unfinished(&self) -> bool
+    pub fn is_unfinished(&self) -> bool
         ensures { result ≡ unfinished self.now }
     {
         self.place.is_some() && !self.finished
@@ -194,7 +194,7 @@ impl Page {
     }
 
     // Whether every answer from memory is the cell given here.
-    pub(crate) fn agrees(&self, cells: &[u32]) -> bool
+    pub fn agrees(&self, cells: &[u32]) -> bool
         ensures { result ≡ true → Agree self.now.answers.items cells.now }
     {
         for pair in self.answers.iter() {
@@ -212,7 +212,7 @@ pub struct Book {
 }
 
 impl Book {
-    pub(crate) fn new(heap: Global) -> Book
+    pub fn new(heap: Global) -> Book
         ensures { vec_len result.pages ≡ 0 }
     {
         Book {
@@ -220,7 +220,7 @@ impl Book {
         }
     }
 
-    pub(crate) fn pages(&self) -> &[Page]
+    pub fn pages(&self) -> &[Page]
         ensures { result.now ≡ self.now.pages.items }
     {
         self.pages.as_slice()
@@ -238,12 +238,7 @@ impl Book {
         None
     }
 
-    pub(crate) fn note(
-        &mut self,
-        heap: Global,
-        call: Move,
-        answer: Answer,
-    ) -> Result<(), AllocError> {
+    pub fn note(&mut self, heap: Global, call: Move, answer: Answer) -> Result<(), AllocError> {
         if let Answer::Began { start: _ } = answer {
             self.pages.push(Page::open(heap, call.task))?;
             return Ok(());
@@ -256,7 +251,7 @@ impl Book {
     }
 
     // How many writers are committed.
-    pub(crate) fn committed(&self) -> usize
+    pub fn committed(&self) -> usize
         ensures { result ≡ writers self.now.pages.items }
     {
         let mut count = 0;
@@ -267,7 +262,7 @@ impl Book {
     }
 
     // What unfinished writers owe together.
-    pub(crate) fn owed(&self) -> Option<usize>
+    pub fn owed(&self) -> Option<usize>
         ensures { IfSome result (λ sum. sum ≡ debts self.now.pages.items) }
     {
         let mut sum: usize = 0;
@@ -300,7 +295,7 @@ impl Book {
     }
 
     // The task of the oldest unfinished writer.
-    pub(crate) fn oldest(&self) -> Option<u32> {
+    pub fn oldest(&self) -> Option<u32> {
         for before in 0..self.committed() {
             match self.writer(before + 1) {
                 Some(page) if page.is_unfinished() => return Some(page.task),
@@ -311,7 +306,7 @@ impl Book {
     }
 
     // Whether an unfinished writer's log has this address.
-    pub(crate) fn is_being_written(&self, address: u32) -> bool
+    pub fn is_being_written(&self, address: u32) -> bool
         ensures { result ≡ true → Writing self.now.pages.items address }
     {
         for page in self.pages.iter() {
@@ -323,7 +318,7 @@ impl Book {
     }
 
     // The cells after the first `count` committed logs. All cells are 0 at making.
-    pub(crate) fn cells_after(&self, count: usize) -> [u32; CELLS]
+    pub fn cells_after(&self, count: usize) -> [u32; CELLS]
         ensures { result ≡ after self.now.pages.items count }
     {
         let mut cells = [0; CELLS];

@@ -79,7 +79,7 @@ pub struct Findings {
 }
 
 impl Findings {
-    pub(crate) fn new() -> Findings {
+    pub fn new() -> Findings {
         Findings {
             laid_down: Finding::new(),
             one_snapshot: Finding::new(),
@@ -87,7 +87,7 @@ impl Findings {
         }
     }
 
-    pub(crate) fn note(self, book: &Book, turn: Turn, cells: &[u32; CELLS]) -> Findings {
+    pub fn note(self, book: &Book, turn: Turn, cells: &[u32; CELLS]) -> Findings {
         Findings {
             laid_down: self.laid_down.note(laid_down(book, cells)),
             one_snapshot: self.one_snapshot.note(one_snapshot(book)),
