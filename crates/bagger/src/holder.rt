@@ -1,20 +1,41 @@
 // What a task holds between two of its moves, and the calls that this allows.
-ghost use Rattle.std.specs.Prelude.{◌≡◌};
+ghost use Rattle.std.specs.Prelude.{◌≡◌, IfOk, MatchResult};
+ghost use Rattle.held.specs.Handed.{DeniedHands};
 ghost use Rattle.bagger.specs.Holding.{number, holds_nothing, Own};
+ghost use Rattle.bagger.specs.declared.holder.Held.TheVariants.{Committed, Open};
 
+use crate::controller::Controller;
 use crate::machine::Task;
 use crate::moves::{Act, Outcome};
-use crate::turn::{Turn, after_commit, after_quit, after_read, after_work, after_write, refused};
+use crate::turn::Turn;
 use cells::memory::Memory;
-use engine::arrays::Arrays;
-use engine::engine::Engine;
+use cells::refusal::Refusal;
 use filters::filter::Filter;
+use held::answer::{Denied, Refused};
 use held::transaction::{CommittedTransaction, OpenTransaction};
 
+#[derive(Default)]
 pub(crate) enum Held {
+    #[default]
     Nothing,
     Open(OpenTransaction),
     Committed(CommittedTransaction),
+}
+
+impl From<OpenTransaction> for Held {
+    ghost from_gives = { λ transaction held. held ≡ Open transaction };
+
+    fn from(transaction: OpenTransaction) -> Held {
+        Held::Open(transaction)
+    }
+}
+
+impl From<CommittedTransaction> for Held {
+    ghost from_gives = { λ transaction held. held ≡ Committed transaction };
+
+    fn from(transaction: CommittedTransaction) -> Held {
+        Held::Committed(transaction)
+    }
 }
 
 impl Held {
@@ -22,105 +43,100 @@ impl Held {
     pub(crate) fn release(self) -> bool
         ensures { result ≡ holds_nothing self }
     {
-        match self {
-            Held::Nothing => true,
-            Held::Open(transaction) => {
-                let _ = transaction.into_task();
-                false
-            }
-            Held::Committed(transaction) => {
-                let _ = transaction.into_task();
-                false
-            }
-        }
+        let _task = match self {
+            Held::Nothing => return true,
+            Held::Open(transaction) => transaction.into_task(),
+            Held::Committed(transaction) => transaction.into_task(),
+        };
+        false
     }
 
     // Makes the move's call on what is held. The task keeps a transaction of its own.
     pub(crate) fn turn<M: Memory, F: Filter>(
         self,
-        engine: &mut Engine,
-        memory: &mut M,
-        arrays: &mut Arrays<'_, '_, '_, '_, F, M::Cell>,
+        controller: &mut Controller<'_, '_, '_, '_, M, F>,
         task: Task,
         act: Act<M::Cell>,
     ) -> Turn<M::Cell>
         ensures { Own (number task) self → Own (number task) result.held }
     {
         match self {
-            Held::Nothing => idle(engine, memory, arrays, task, act),
-            Held::Open(transaction) => open(transaction, engine, memory, arrays, act),
-            Held::Committed(transaction) => committed(transaction, engine, memory, arrays, act),
+            Held::Nothing => Turn::settled(idle(controller, task, act)),
+            Held::Open(transaction) => Turn::settled(open(transaction, controller, act)),
+            Held::Committed(transaction) => {
+                Turn::settled(committed(transaction, controller, act))
+            }
         }
     }
 }
 
 // A task that holds nothing can begin.
 fn idle<M: Memory, F: Filter>(
-    engine: &Engine,
-    memory: &M,
-    arrays: &mut Arrays<'_, '_, '_, '_, F, M::Cell>,
+    controller: &mut Controller<'_, '_, '_, '_, M, F>,
     task: Task,
     act: Act<M::Cell>,
-) -> Turn<M::Cell>
-    ensures { Own (number task) result.held }
+) -> Result<Turn<M::Cell>, Refusal>
+    ensures { IfOk result (λ turn. Own (number task) turn.held) }
 {
     let Act::Begin = act else {
-        return Turn {
-            held: Held::Nothing,
-            outcome: Outcome::OutOfTurn,
-        };
+        return Ok(Turn::new(Held::Nothing, Outcome::OutOfTurn));
     };
-    match OpenTransaction::begin(engine, memory, arrays, task as u32) {
-        Ok((transaction, start)) => Turn {
-            held: Held::Open(transaction),
-            outcome: Outcome::Began(start),
-        },
-        Err(refusal) => Turn {
-            held: Held::Nothing,
-            outcome: refused(refusal),
-        },
-    }
+    let Controller {
+        engine,
+        memory,
+        arrays,
+    } = controller;
+    let (transaction, start) = OpenTransaction::begin(engine, memory, arrays, task as u32)?;
+    Ok(Turn::new(Held::Open(transaction), Outcome::Began(start)))
 }
 
 // An open transaction can be read and written through, committed and quit.
 fn open<M: Memory, F: Filter>(
     transaction: OpenTransaction,
-    engine: &mut Engine,
-    memory: &M,
-    arrays: &mut Arrays<'_, '_, '_, '_, F, M::Cell>,
+    controller: &mut Controller<'_, '_, '_, '_, M, F>,
     act: Act<M::Cell>,
-) -> Turn<M::Cell>
-    ensures { Own transaction.task result.held }
+) -> Result<Turn<M::Cell>, Denied>
+    ensures { MatchResult result (λ turn. Own transaction.task turn.held) (λ denied. DeniedHands transaction.task denied) }
 {
+    let Controller {
+        engine,
+        memory,
+        arrays,
+    } = controller;
     match act {
-        Act::Read(signal) => after_read(transaction.read(engine, memory, arrays, signal as u32)),
-        Act::Write(signal, cell) => {
-            after_write(transaction.write(engine, memory, arrays, signal as u32, cell))
+        Act::Read(signal) => {
+            let reading = transaction.read(engine, memory, arrays, signal as u32)?;
+            Ok(reading.into())
         }
-        Act::Commit => after_commit(transaction.commit(engine, memory, arrays)),
-        Act::Quit => after_quit(transaction.quit(engine, memory, arrays)),
-        Act::Begin | Act::Work => Turn {
-            held: Held::Open(transaction),
-            outcome: Outcome::OutOfTurn,
-        },
+        Act::Write(signal, cell) => {
+            let address = signal as u32;
+            let (transaction, logged) = transaction.write(engine, memory, arrays, address, cell)?;
+            Ok(Turn::new(Held::Open(transaction), Outcome::Logged(logged)))
+        }
+        Act::Commit => Ok(transaction.commit(engine, memory, arrays)?.into()),
+        Act::Quit => {
+            let logged = transaction.quit(engine, memory, arrays)?;
+            Ok(Turn::new(Held::Nothing, Outcome::GaveUp(logged)))
+        }
+        Act::Begin | Act::Work => Ok(Turn::new(Held::Open(transaction), Outcome::OutOfTurn)),
     }
 }
 
 // A committed transaction can be worked on.
 fn committed<M: Memory, F: Filter>(
     transaction: CommittedTransaction,
-    engine: &Engine,
-    memory: &mut M,
-    arrays: &mut Arrays<'_, '_, '_, '_, F, M::Cell>,
+    controller: &mut Controller<'_, '_, '_, '_, M, F>,
     act: Act<M::Cell>,
-) -> Turn<M::Cell>
-    ensures { Own transaction.task result.held }
+) -> Result<Turn<M::Cell>, Refused<CommittedTransaction>>
+    ensures { MatchResult result (λ turn. Own transaction.task turn.held) (λ refused. refused.transaction.task ≡ transaction.task) }
 {
     let Act::Work = act else {
-        return Turn {
-            held: Held::Committed(transaction),
-            outcome: Outcome::OutOfTurn,
-        };
+        return Ok(Turn::new(Held::Committed(transaction), Outcome::OutOfTurn));
     };
-    after_work(transaction.work(engine, memory, arrays))
+    let Controller {
+        engine,
+        memory,
+        arrays,
+    } = controller;
+    Ok(transaction.work(engine, memory, arrays)?.into())
 }

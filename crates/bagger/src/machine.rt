@@ -11,12 +11,13 @@ pub(crate) enum Task {
 
 impl fmt::Display for Task {
     fn fmt<W: fmt::Write>(&self, f: &mut fmt::Formatter<W>) -> fmt::Result {
-        match *self {
-            Task::Format => write!(f, "format"),
-            Task::Knife => write!(f, "knife"),
-            Task::Film => write!(f, "film"),
-            Task::PhotoEye => write!(f, "photo-eye"),
-        }
+        let name = match *self {
+            Task::Format => "format",
+            Task::Knife => "knife",
+            Task::Film => "film",
+            Task::PhotoEye => "photo-eye",
+        };
+        f.write_str(name)
     }
 }
 
@@ -33,13 +34,14 @@ pub(crate) enum Signal {
 
 impl fmt::Display for Signal {
     fn fmt<W: fmt::Write>(&self, f: &mut fmt::Formatter<W>) -> fmt::Result {
-        match *self {
-            Signal::BagLength => write!(f, "bag length"),
-            Signal::KnifeSpeed => write!(f, "knife speed"),
-            Signal::FilmPosition => write!(f, "film position"),
-            Signal::PrintMark => write!(f, "print mark"),
-            Signal::BagCount => write!(f, "bag count"),
-            Signal::SealHeat => write!(f, "seal heat"),
-        }
+        let name = match *self {
+            Signal::BagLength => "bag length",
+            Signal::KnifeSpeed => "knife speed",
+            Signal::FilmPosition => "film position",
+            Signal::PrintMark => "print mark",
+            Signal::BagCount => "bag count",
+            Signal::SealHeat => "seal heat",
+        };
+        f.write_str(name)
     }
 }

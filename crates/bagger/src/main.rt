@@ -12,7 +12,7 @@ use filters::small::Small;
 use rules::ring::Entry;
 use rules::table::TaskRecord;
 
-mod cell;
+mod controller;
 mod fault;
 mod holder;
 mod machine;
@@ -31,7 +31,7 @@ fn main(rt: HostRuntime) -> Result<(), Fault> {
     println!(rt; "The mixed pair that never gets cut, over tags")?;
     play(
         &rt,
-        &mut Tags::new(&mut [0; BYTES]),
+        Tags::new(&mut [0; BYTES]),
         &mut [Entry::<Small>::vacant(); SLOTS],
         &mut [TaskRecord::<Small>::emptied(); TASKS],
         &mut [UNKNOWN; LOGS],
@@ -40,7 +40,7 @@ fn main(rt: HostRuntime) -> Result<(), Fault> {
     println!(rt; "The slot taken over while a writer waits, over words")?;
     play(
         &rt,
-        &mut Words::new(&mut [0; CELLS]),
+        Words::new(&mut [0; CELLS]),
         &mut [Entry::<Large>::vacant(); SLOTS],
         &mut [TaskRecord::<Large>::emptied(); TASKS],
         &mut [0; LOGS],

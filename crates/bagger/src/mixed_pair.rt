@@ -1,5 +1,4 @@
 // The mixed pair that never gets cut: the knife has read the bag length when the format task changes length and speed.
-use crate::cell::GOOD;
 use crate::machine::Signal::{BagCount, BagLength, FilmPosition, KnifeSpeed, PrintMark};
 use crate::machine::Task::{Film, Format, Knife, PhotoEye};
 use crate::moves::Act::{Begin, Commit, Quit, Read, Work, Write};
@@ -7,7 +6,7 @@ use crate::moves::Move;
 use crate::moves::Outcome::{
     Answered, Began, Conflict, Finished, GaveUp, Left, Logged, NothingLogged, Placed, Waits,
 };
-use cells::tags::Tag;
+use cells::tags::{GOOD, Tag};
 
 const OLD_LENGTH: Tag = Tag {
     quality: GOOD,

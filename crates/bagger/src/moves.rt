@@ -1,8 +1,8 @@
 // A row of a schedule: which task moves next, what it does, and what is to come of it.
-use crate::cell::Shown;
 use crate::machine::{Signal, Task};
 use cells::refusal::Refusal;
-use std::fmt;
+use rules::answer::Abort;
+use std::fmt::{self, Display};
 
 #[derive(Clone, Copy)]
 pub(crate) enum Act<C> {
@@ -14,15 +14,12 @@ pub(crate) enum Act<C> {
     Quit,
 }
 
-impl<C: Shown> fmt::Display for Act<C> {
+impl<C: Display> Display for Act<C> {
     fn fmt<W: fmt::Write>(&self, f: &mut fmt::Formatter<W>) -> fmt::Result {
         match self {
             Act::Begin => write!(f, "begins"),
             Act::Read(signal) => write!(f, "reads {signal}"),
-            Act::Write(signal, cell) => {
-                write!(f, "writes {signal} ")?;
-                cell.show(f)
-            }
+            Act::Write(signal, cell) => write!(f, "writes {signal} {cell}"),
             Act::Commit => write!(f, "commits"),
             Act::Work => write!(f, "works"),
             Act::Quit => write!(f, "quits"),
@@ -30,6 +27,7 @@ impl<C: Shown> fmt::Display for Act<C> {
     }
 }
 
+// Flat, since a row of a table names one of these: as a Result it is no plainer, `Err(Refused(MustWait { place: 1 }))` for `Waits(1)`.
 #[derive(PartialEq, Drop)]
 pub(crate) enum Outcome<C> {
     // The start.
@@ -56,11 +54,11 @@ pub(crate) enum Outcome<C> {
     OutOfTurn,
 }
 
-impl<C: Shown> fmt::Display for Outcome<C> {
+impl<C: Display> Display for Outcome<C> {
     fn fmt<W: fmt::Write>(&self, f: &mut fmt::Formatter<W>) -> fmt::Result {
         match self {
             Outcome::Began(start) => write!(f, "start {start}"),
-            Outcome::Answered(cell) => cell.show(f),
+            Outcome::Answered(cell) => write!(f, "{cell}"),
             Outcome::Logged(count) => write!(f, "{count} logged"),
             Outcome::Placed(place) => write!(f, "place {place}"),
             Outcome::NothingLogged => write!(f, "nothing to write back"),
@@ -70,11 +68,27 @@ impl<C: Shown> fmt::Display for Outcome<C> {
             Outcome::Conflict(place) => write!(f, "conflict with place {place}"),
             Outcome::Overrun => write!(f, "overrun"),
             Outcome::Waits(place) => write!(f, "waits for place {place}"),
-            Outcome::Refused(refusal) => {
-                let number = refusal.code();
-                write!(f, "refusal {number}")
-            }
+            Outcome::Refused(refusal) => write!(f, "refusal {}", refusal.code()),
             Outcome::OutOfTurn => write!(f, "out of turn"),
+        }
+    }
+}
+
+// A writer that must wait names the place.
+impl<C> From<Refusal> for Outcome<C> {
+    fn from(refusal: Refusal) -> Outcome<C> {
+        match refusal {
+            Refusal::MustWait { place } => Outcome::Waits(place),
+            _ => Outcome::Refused(refusal),
+        }
+    }
+}
+
+impl<C> From<Abort> for Outcome<C> {
+    fn from(abort: Abort) -> Outcome<C> {
+        match abort {
+            Abort::Conflict { place, compared: _ } => Outcome::Conflict(place),
+            Abort::Overrun { compared: _ } => Outcome::Overrun,
         }
     }
 }

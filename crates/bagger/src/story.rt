@@ -1,5 +1,5 @@
 // A story: an engine over a memory, and the moves of a table, each told as it comes out.
-use crate::cell::Shown;
+use crate::controller::Controller;
 use crate::fault::Fault;
 use crate::holder::Held;
 use crate::moves::Move;
@@ -10,7 +10,9 @@ use engine::engine::{Engine, Settings};
 use filters::filter::Filter;
 use rules::ring::Entry;
 use rules::table::TaskRecord;
-use std::mem::replace;
+use std::fmt::Display;
+use std::io::Print;
+use std::mem::{replace, take};
 
 pub(crate) const SLOTS: usize = 4;
 
@@ -28,14 +30,18 @@ const SETTINGS: Settings = Settings {
 };
 
 // Plays the moves from an engine newly made. In the end nobody may hold a transaction.
-pub(crate) fn play<C: Shown, M: Memory<Cell = C>, F: Filter>(
-    rt: &HostRuntime,
-    memory: &mut M,
+// The arrays come one by one: a struct of `&mut`s that is moved into another and then lent gets no proof.
+pub(crate) fn play<M: Memory + Drop, F: Filter>(
+    rt: &impl Print,
+    memory: M,
     ring: &mut [Entry<F>],
     table: &mut [TaskRecord<F>],
-    cells: &mut [C],
-    moves: &[Move<C>],
-) -> Result<(), Fault> {
+    cells: &mut [M::Cell],
+    moves: &[Move<M::Cell>],
+) -> Result<(), Fault>
+where
+    M::Cell: PartialEq + Display,
+{
     let mut addresses = [0u32; LOGS];
     let mut arrays = Arrays {
         ring,
@@ -43,36 +49,43 @@ pub(crate) fn play<C: Shown, M: Memory<Cell = C>, F: Filter>(
         addresses: &mut addresses,
         cells,
     };
-    let mut engine = Engine::make(SETTINGS, memory, &mut arrays)?;
-    let mut holders = [Held::Nothing, Held::Nothing, Held::Nothing, Held::Nothing];
-    let told = tell(rt, &mut engine, memory, &mut arrays, &mut holders, moves);
+    let engine = Engine::make(SETTINGS, &memory, &mut arrays)?;
+    let mut controller = Controller {
+        engine,
+        memory,
+        arrays,
+    };
+    let mut holders = [const { Held::Nothing }; TASKS];
+    let told = tell(rt, &mut controller, &mut holders, moves);
+    // One by one: the array's `map` asks for Drop, which no holder is.
     let [format, knife, film, photo_eye] = holders;
-    let finished = [
+    let idle = [
         format.release(),
         knife.release(),
         film.release(),
         photo_eye.release(),
     ];
     told?;
-    if finished != [true; TASKS] {
+    if idle.contains(&false) {
         return Err(Fault::Unfinished);
     }
     Ok(())
 }
 
 // Makes the moves, and prints each with what came of it.
-fn tell<C: Shown, M: Memory<Cell = C>, F: Filter>(
-    rt: &HostRuntime,
-    engine: &mut Engine,
-    memory: &mut M,
-    arrays: &mut Arrays<'_, '_, '_, '_, F, C>,
+fn tell<M: Memory, F: Filter>(
+    rt: &impl Print,
+    controller: &mut Controller<'_, '_, '_, '_, M, F>,
     holders: &mut [Held; TASKS],
-    moves: &[Move<C>],
-) -> Result<(), Fault> {
+    moves: &[Move<M::Cell>],
+) -> Result<(), Fault>
+where
+    M::Cell: PartialEq + Display,
+{
     for Move(task, act, expected) in moves {
         let holder = &mut holders[*task as usize];
-        let held = replace(holder, Held::Nothing);
-        let Turn { held, outcome } = held.turn(engine, memory, arrays, *task, *act);
+        let held = take(holder);
+        let Turn { held, outcome } = held.turn(controller, *task, *act);
         // The holder is empty during the move.
         let _ = replace(holder, held).release();
         println!(rt; "{task} {act}: {outcome}")?;

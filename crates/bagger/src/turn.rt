@@ -1,146 +1,109 @@
-// What the answer of a held call leaves with the task, and what came of the move.
-ghost use Rattle.std.specs.Prelude.{ℕ};
-ghost use Rattle.held.specs.Handed.{ReadHands, WriteHands, CommitHands, WorkHands, QuitHands};
+// What a call leaves with the task, and what came of the move.
+ghost use Rattle.std.specs.Prelude.{◌≡◌, ℕ, MatchResult, Ok};
+ghost use Rattle.held.specs.Handed.{CommitHands, DeniedHands, WorkHands};
 ghost use Rattle.bagger.specs.Holding.{Own};
+ghost use Rattle.bagger.specs.declared.holder.Held.TheVariants.{Nothing, Open};
 
 use crate::holder::Held;
 use crate::moves::Outcome;
 use cells::refusal::Refusal;
-use held::answer::{Abort, Committing, Quitting, Reading, Working, Writing};
+use held::answer::{Committing, Denied, Reading, Refused, Working};
 
 pub(crate) struct Turn<C> {
     pub(crate) held: Held,
     pub(crate) outcome: Outcome<C>,
 }
 
-pub(crate) fn after_read<C>(reading: Reading<C>) -> Turn<C>
-    ensures { (task : ℕ) → ReadHands task reading → Own task result.held }
-{
-    match reading {
-        Reading::Read {
+impl<C> Turn<C> {
+    pub(crate) fn new(held: Held, outcome: Outcome<C>) -> Turn<C>
+        ensures { result.held ≡ held }
+    {
+        Turn { held, outcome }
+    }
+
+    // The turn of an accepted call, or what a refused or aborted one leaves.
+    pub(crate) fn settled<E: Into<Turn<C>>>(answer: Result<Turn<C>, E>) -> Turn<C>
+        ensures { MatchResult answer (λ turn. result ≡ turn) (λ denied. E.converts denied result) }
+    {
+        match answer {
+            Ok(turn) => turn,
+            Err(denied) => denied.into(),
+        }
+    }
+}
+
+impl<C> From<Reading<C>> for Turn<C> {
+    ghost from_gives = { λ reading turn. turn.held ≡ Open reading.transaction };
+
+    fn from(reading: Reading<C>) -> Turn<C> {
+        let Reading {
             transaction,
             cell,
             compared: _,
-        } => Turn {
-            held: Held::Open(transaction),
-            outcome: Outcome::Answered(cell),
-        },
-        Reading::Refused {
+        } = reading;
+        Turn::new(Held::Open(transaction), Outcome::Answered(cell))
+    }
+}
+
+impl<C> From<Committing> for Turn<C> {
+    ghost from_gives = { λ committing turn. (task : ℕ) → CommitHands task (Ok committing) → Own task turn.held };
+
+    fn from(committing: Committing) -> Turn<C> {
+        match committing {
+            Committing::Committed {
+                transaction,
+                place,
+                compared: _,
+            } => Turn::new(Held::Committed(transaction), Outcome::Placed(place)),
+            Committing::NothingLogged { compared: _ } => {
+                Turn::new(Held::Nothing, Outcome::NothingLogged)
+            }
+        }
+    }
+}
+
+impl<C> From<Working> for Turn<C> {
+    ghost from_gives = { λ working turn. (task : ℕ) → WorkHands task (Ok working) → Own task turn.held };
+
+    fn from(working: Working) -> Turn<C> {
+        match working {
+            Working::Left { transaction, cells } => {
+                Turn::new(Held::Committed(transaction), Outcome::Left(cells))
+            }
+            Working::Done { place } => Turn::new(Held::Nothing, Outcome::Finished(place)),
+        }
+    }
+}
+
+// A refused begin leaves nothing.
+impl<C> From<Refusal> for Turn<C> {
+    ghost from_gives = { λ refusal turn. turn.held ≡ Nothing };
+
+    fn from(refusal: Refusal) -> Turn<C> {
+        Turn::new(Held::Nothing, refusal.into())
+    }
+}
+
+// A refused transaction stays with the task.
+impl<C, T: Into<Held>> From<Refused<T>> for Turn<C> {
+    ghost from_gives = { λ refused turn. T.converts refused.transaction turn.held };
+
+    fn from(refused: Refused<T>) -> Turn<C> {
+        let Refused {
             transaction,
             refusal,
-        } => Turn {
-            held: Held::Open(transaction),
-            outcome: refused(refusal),
-        },
-        Reading::Aborted(abort) => Turn {
-            held: Held::Nothing,
-            outcome: aborted(abort),
-        },
+        } = refused;
+        Turn::new(transaction.into(), refusal.into())
     }
 }
 
-pub(crate) fn after_write<C>(writing: Writing) -> Turn<C>
-    ensures { (task : ℕ) → WriteHands task writing → Own task result.held }
-{
-    match writing {
-        Writing::Logged {
-            transaction,
-            logged,
-        } => Turn {
-            held: Held::Open(transaction),
-            outcome: Outcome::Logged(logged),
-        },
-        Writing::Refused {
-            transaction,
-            refusal,
-        } => Turn {
-            held: Held::Open(transaction),
-            outcome: refused(refusal),
-        },
-    }
-}
+impl<C> From<Denied> for Turn<C> {
+    ghost from_gives = { λ denied turn. (task : ℕ) → DeniedHands task denied → Own task turn.held };
 
-pub(crate) fn after_commit<C>(committing: Committing) -> Turn<C>
-    ensures { (task : ℕ) → CommitHands task committing → Own task result.held }
-{
-    match committing {
-        Committing::Committed {
-            transaction,
-            place,
-            compared: _,
-        } => Turn {
-            held: Held::Committed(transaction),
-            outcome: Outcome::Placed(place),
-        },
-        Committing::NothingLogged { compared: _ } => Turn {
-            held: Held::Nothing,
-            outcome: Outcome::NothingLogged,
-        },
-        Committing::Refused {
-            transaction,
-            refusal,
-        } => Turn {
-            held: Held::Open(transaction),
-            outcome: refused(refusal),
-        },
-        Committing::Aborted(abort) => Turn {
-            held: Held::Nothing,
-            outcome: aborted(abort),
-        },
-    }
-}
-
-pub(crate) fn after_quit<C>(quitting: Quitting) -> Turn<C>
-    ensures { (task : ℕ) → QuitHands task quitting → Own task result.held }
-{
-    match quitting {
-        Quitting::Quit { logged } => Turn {
-            held: Held::Nothing,
-            outcome: Outcome::GaveUp(logged),
-        },
-        Quitting::Refused {
-            transaction,
-            refusal,
-        } => Turn {
-            held: Held::Open(transaction),
-            outcome: refused(refusal),
-        },
-    }
-}
-
-pub(crate) fn after_work<C>(working: Working) -> Turn<C>
-    ensures { (task : ℕ) → WorkHands task working → Own task result.held }
-{
-    match working {
-        Working::Left { transaction, cells } => Turn {
-            held: Held::Committed(transaction),
-            outcome: Outcome::Left(cells),
-        },
-        Working::Done { place } => Turn {
-            held: Held::Nothing,
-            outcome: Outcome::Finished(place),
-        },
-        Working::Refused {
-            transaction,
-            refusal,
-        } => Turn {
-            held: Held::Committed(transaction),
-            outcome: refused(refusal),
-        },
-    }
-}
-
-fn aborted<C>(abort: Abort) -> Outcome<C> {
-    match abort {
-        Abort::Conflict { place, compared: _ } => Outcome::Conflict(place),
-        Abort::Overrun { compared: _ } => Outcome::Overrun,
-    }
-}
-
-// A writer that must wait names the place.
-pub(crate) fn refused<C>(refusal: Refusal) -> Outcome<C> {
-    match refusal {
-        Refusal::MustWait { place } => Outcome::Waits(place),
-        _ => Outcome::Refused(refusal),
+    fn from(denied: Denied) -> Turn<C> {
+        match denied {
+            Denied::Refused(refused) => refused.into(),
+            Denied::Aborted(abort) => Turn::new(Held::Nothing, abort.into()),
+        }
     }
 }

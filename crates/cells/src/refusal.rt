@@ -2,6 +2,8 @@
 ghost use Rattle.std.specs.Prelude.{◌≡◌};
 ghost use Rattle.cells.specs.Refusals.{number};
 
+use std::fmt;
+
 #[derive(Clone, Copy, PartialEq, Eq, Debug)]
 pub enum Refusal {
     RingLength,
@@ -24,6 +26,7 @@ pub enum Refusal {
 }
 
 impl Refusal {
+    // A method and no conversion into `u32`: `code` says which number of a refusal is meant, the rulebook's.
     pub fn code(self) -> u32
         ensures { result ≡ number self }
     {
@@ -44,6 +47,29 @@ impl Refusal {
             Refusal::PlacesSpent => 24,
             Refusal::RingFull => 25,
             Refusal::MustWait { place: _ } => 26,
+        }
+    }
+}
+
+impl fmt::Display for Refusal {
+    fn fmt<W: fmt::Write>(&self, f: &mut fmt::Formatter<W>) -> fmt::Result {
+        match *self {
+            Refusal::RingLength => write!(f, "ring length"),
+            Refusal::TaskCount => write!(f, "task count"),
+            Refusal::LogLength => write!(f, "log length"),
+            Refusal::LastPlace => write!(f, "last place"),
+            Refusal::MemorySize => write!(f, "memory size"),
+            Refusal::ArrayLength => write!(f, "array length"),
+            Refusal::TaskNumber => write!(f, "task number"),
+            Refusal::Address => write!(f, "address"),
+            Refusal::BrokenLine => write!(f, "broken line"),
+            Refusal::OutputFull => write!(f, "output full"),
+            Refusal::Torn => write!(f, "torn"),
+            Refusal::PhaseForbids => write!(f, "phase forbids"),
+            Refusal::LogFull => write!(f, "log full"),
+            Refusal::PlacesSpent => write!(f, "places spent"),
+            Refusal::RingFull => write!(f, "ring full"),
+            Refusal::MustWait { place } => write!(f, "must wait for place {place}"),
         }
     }
 }

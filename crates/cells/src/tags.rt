@@ -4,6 +4,10 @@ ghost use Rattle.cells.specs.Tags.{count, leftover, stored, tag_at, tags};
 
 use crate::memory::Memory;
 use crate::refusal::Refusal;
+use std::fmt;
+
+// The quality of a value that can be relied on.
+pub const GOOD: u8 = 192;
 
 // The bytes of a cell: its quality, then its value, most significant byte first.
 const CELL: usize = 5;
@@ -12,6 +16,16 @@ const CELL: usize = 5;
 pub struct Tag {
     pub quality: u8,
     pub value: u32,
+}
+
+impl fmt::Display for Tag {
+    fn fmt<W: fmt::Write>(&self, f: &mut fmt::Formatter<W>) -> fmt::Result {
+        let value = self.value;
+        match self.quality {
+            GOOD => write!(f, "{value} (good)"),
+            quality => write!(f, "{value} (quality {quality})"),
+        }
+    }
 }
 
 #[derive(Drop)]

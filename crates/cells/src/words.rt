@@ -32,10 +32,7 @@ impl<'a> Memory for Words<'a> {
     }
 
     fn read(&self, address: usize) -> Result<u32, Refusal> {
-        if address >= self.cells.len() {
-            return Err(Refusal::Address);
-        }
-        Ok(self.cells[address])
+        self.cells.get(address).copied().ok_or(Refusal::Address)
     }
 
     fn write(&mut self, address: usize, cell: u32) -> Result<(), Refusal> {

@@ -1,2 +1,3 @@
-mod Places
-mod Snapshots
+mod Addresses
+mod Lowest
+mod Tasks

@@ -1,107 +1,58 @@
 // What the engine answers to a move.
 use cells::refusal::Refusal;
-use rules::answer::{Denial, Worked};
+use rules::answer::{Abort, Denial, Worked};
 use std::fmt;
 
+// What an accepted call has done.
 #[derive(Clone, Copy)]
-pub enum Answer {
+pub enum Effect {
     Began { start: u32 },
     Read { cell: u32, compared: u32 },
     Wrote { logged: u32 },
-    Committed { place: u32, compared: u32 },
-    CommittedNothing,
-    Left { cells: u32 },
-    Done { place: u32 },
+    // A commit with nothing logged has no place.
+    Committed { place: Option<u32>, compared: u32 },
+    Worked(Worked),
     Quit { logged: u32 },
-    Conflict { place: u32, compared: u32 },
-    Overrun { compared: u32 },
-    Refused(Refusal),
 }
 
-impl Answer {
-    pub fn is_refused(self) -> bool {
-        match self {
-            Answer::Refused(_) => true,
-            _ => false,
-        }
-    }
+pub type Answer = Result<Effect, Denial>;
 
-    // Whether a work was accepted.
-    pub fn is_work(self) -> bool {
-        match self {
-            Answer::Left { cells: _ } | Answer::Done { place: _ } => true,
-            _ => false,
-        }
-    }
-}
-
-impl From<Denial> for Answer {
-    fn from(denial: Denial) -> Answer {
-        match denial {
-            Denial::Refused(refusal) => Answer::Refused(refusal),
-            Denial::Conflict { place, compared } => Answer::Conflict { place, compared },
-            Denial::Overrun { compared } => Answer::Overrun { compared },
-        }
-    }
-}
-
-impl From<Worked> for Answer {
-    fn from(worked: Worked) -> Answer {
-        match worked {
-            Worked::Left(cells) => Answer::Left { cells },
-            Worked::Done { place } => Answer::Done { place },
-        }
-    }
-}
-
-impl fmt::Display for Answer {
+impl fmt::Display for Effect {
     fn fmt<W: fmt::Write>(&self, f: &mut fmt::Formatter<W>) -> fmt::Result {
         match *self {
-            Answer::Began { start } => write!(f, "start {start}"),
-            Answer::Read { cell, compared } => write!(f, "{cell}, compared {compared}"),
-            Answer::Wrote { logged } => write!(f, "logged {logged}"),
-            Answer::Committed { place, compared } => write!(
-                f,
-                "place {place}, compared {compared}"
-            ),
-            Answer::CommittedNothing => write!(f, "nothing was logged"),
-            Answer::Left { cells } => write!(f, "{cells} left"),
-            Answer::Done { place } => write!(f, "done with place {place}"),
-            Answer::Quit { logged } => write!(f, "{logged} logged, given up"),
-            Answer::Conflict { place, compared } => write!(
+            Effect::Began { start } => write!(f, "start {start}"),
+            Effect::Read { cell, compared } => write!(f, "{cell}, compared {compared}"),
+            Effect::Wrote { logged } => write!(f, "logged {logged}"),
+            Effect::Committed {
+                place: Some(place),
+                compared,
+            } => write!(f, "place {place}, compared {compared}"),
+            Effect::Committed { place: None, .. } => write!(f, "nothing was logged"),
+            Effect::Worked(Worked::Left(cells)) => write!(f, "{cells} left"),
+            Effect::Worked(Worked::Done { place }) => write!(f, "done with place {place}"),
+            Effect::Quit { logged } => write!(f, "{logged} logged, given up"),
+        }
+    }
+}
+
+// A denial as it is printed.
+#[derive(Clone, Copy)]
+pub struct Denied(pub Denial);
+
+impl fmt::Display for Denied {
+    fn fmt<W: fmt::Write>(&self, f: &mut fmt::Formatter<W>) -> fmt::Result {
+        match self.0 {
+            Denial::Refused(Refusal::MustWait { place }) => {
+                write!(f, "must wait for place {place}")
+            }
+            Denial::Refused(refusal) => write!(f, "refused, {refusal}"),
+            Denial::Aborted(Abort::Conflict { place, compared }) => write!(
                 f,
                 "conflict with place {place}, compared {compared}"
             ),
-            Answer::Overrun { compared } => write!(f, "overrun, compared {compared}"),
-            Answer::Refused(Refusal::MustWait { place }) => write!(
-                f,
-                "must wait for place {place}"
-            ),
-            Answer::Refused(refusal) => {
-                let reason = reason(refusal);
-                write!(f, "refused, {reason}")
+            Denial::Aborted(Abort::Overrun { compared }) => {
+                write!(f, "overrun, compared {compared}")
             }
         }
-    }
-}
-
-fn reason(refusal: Refusal) -> &'static str {
-    match refusal {
-        Refusal::RingLength => "ring length",
-        Refusal::TaskCount => "task count",
-        Refusal::LogLength => "log length",
-        Refusal::LastPlace => "last place",
-        Refusal::MemorySize => "memory size",
-        Refusal::ArrayLength => "array length",
-        Refusal::TaskNumber => "task number",
-        Refusal::Address => "address",
-        Refusal::BrokenLine => "broken line",
-        Refusal::OutputFull => "output full",
-        Refusal::Torn => "torn",
-        Refusal::PhaseForbids => "phase forbids",
-        Refusal::LogFull => "log full",
-        Refusal::PlacesSpent => "places spent",
-        Refusal::RingFull => "ring full",
-        Refusal::MustWait { place: _ } => "must wait",
     }
 }

@@ -1,10 +1,13 @@
 // The book: what every transaction did, from calls and answers alone.
-ghost use Rattle.std.specs.Prelude.{◌≡◌, ◌+◌, ◌-◌, ◌^◌, ◌<◌, true, IfSome, Some, None, vec_len, MatchBool, OnOk, slice_index, slice_set};
-ghost use Rattle.chain.specs.Pages.{Absent, Agree, Busy, Logged, Sought, Writing, after, debt, debts, is_at, laid, log_at, unfinished, writers};
+ghost use Rattle.std.specs.Prelude.{◌≡◌, ◌≢◌, IfOk, ◌+◌, ◌-◌, true, false, cond, IfSome, Some, None, vec_len, OnOk, slice_index, slice_set, option_copied, find, IsErr, MatchOption, All, Contains};
+ghost use Rattle.std.specs.BTreeMap.{IsEmpty, btree_map_len};
+ghost use Rattle.chain.specs.Pages.{Agree, Answered, IsLatest, Logged, NotAbove, Noted, NotedOnLatest, Oldest, OthersStay, Writing, after, busy, debt, debts, is_at, is_done, laid, log_at, logs, opened, opened_by, place_of, unfinished, writers};
 
-use crate::answer::Answer;
+use crate::answer::{Answer, Effect};
 use crate::moves::{Act, Move};
+use rules::answer::Worked;
 use std::alloc::{AllocError, Global};
+use std::collections::BTreeMap;
 
 // How many cells the memory has.
 pub const CELLS: usize = 12;
@@ -15,13 +18,13 @@ pub struct Pair {
     pub cell: u32,
 }
 
-// Sets the cell of the pair's address, where there is one.
-fn put(cells: &mut [u32], pair: Pair)
-    ensures { cells.new ≡ slice_set cells.old pair.address pair.cell }
+// Sets the cell of the address, where there is one.
+fn put(cells: &mut [u32], address: u32, cell: u32)
+    ensures { cells.new ≡ slice_set cells.old address cell }
 {
-    let address = pair.address as usize;
+    let address = address as usize;
     if address < cells.len() {
-        cells[address] = pair.cell;
+        cells[address] = cell;
     }
 }
 
@@ -29,38 +32,42 @@ fn put(cells: &mut [u32], pair: Pair)
 fn is_cell(cells: &[u32], pair: Pair) -> bool
     ensures { result ≡ true → slice_index cells.now pair.address ≡ pair.cell }
 {
-    let address = pair.address as usize;
-    address < cells.len() && cells[address] == pair.cell
+    cells.get(pair.address as usize).copied() == Some(pair.cell)
+}
+
+// How far a transaction has come.
+#[derive(Clone, Copy)]
+enum Phase {
+    Open,
+    // A writer has its place, and owes so many works.
+    Committed { place: usize, owes: usize },
+    Finished { place: usize },
 }
 
 // One transaction, kept for ever.
 #[derive(Drop)]
 pub struct Page {
     task: u32,
-    log: Vec<Pair>,
+    // The cell of each address that was written.
+    log: BTreeMap<u32, u32>,
     // What reads were answered from memory.
     answers: Vec<Pair>,
     // How many writers were committed by the last of these answers.
     seen: usize,
-    // The place, once the page is a committed writer.
-    place: Option<usize>,
-    owes: usize,
-    finished: bool,
+    phase: Phase,
 }
 
 impl Page {
     fn open(heap: Global, task: u32) -> Page
-        ensures task { (result.task ≡ task) × ((result.place ≡ None) × (result.owes ≡ 0)) }
-        ensures empty { (vec_len result.log ≡ 0) × (vec_len result.answers ≡ 0) }
+        ensures task { (result.task ≡ task) × ((place_of result ≡ None) × (debt result ≡ 0)) }
+        ensures empty { IsEmpty result.log × (vec_len result.answers ≡ 0) }
     {
         Page {
             task,
-            log: Vec::new(heap),
+            log: BTreeMap::new(heap),
             answers: Vec::new(heap),
             seen: 0,
-            place: None,
-            owes: 0,
-            finished: false,
+            phase: Phase::Open,
         }
     }
 
@@ -70,80 +77,64 @@ impl Page {
         self.seen
     }
 
+    // The place, once the page is a committed writer.
     pub fn place(&self) -> Option<usize>
-        ensures { result ≡ self.now.place }
+        ensures { result ≡ place_of self.now }
     {
-        self.place
+        match self.phase {
+            Phase::Open => None,
+            Phase::Committed { place, .. } | Phase::Finished { place } => Some(place),
+        }
     }
 
     pub fn is_unfinished(&self) -> bool
         ensures { result ≡ unfinished self.now }
     {
-        self.place.is_some() && !self.finished
+        matches!(self.phase, Phase::Committed { .. })
     }
 
     // Whether the page is the writer at this place.
     fn is_at(&self, place: usize) -> bool
         ensures { result ≡ is_at self.now place }
     {
-        match self.place {
-            Some(at) => at == place,
-            None => false,
-        }
+        self.place() == Some(place)
     }
 
     // What the page owes while it is an unfinished writer.
     fn debt(&self) -> usize
         ensures { result ≡ debt self.now }
     {
-        if self.is_unfinished() { self.owes } else { 0 }
-    }
-
-    // Where the log has this address.
-    fn position(&self, address: u32) -> Option<usize>
-        ensures { Sought self.now.log.items address result }
-    {
-        for index in 0..self.log.len() {
-            if self.log[index].address == address {
-                return Some(index);
-            }
+        match self.phase {
+            Phase::Committed { owes, .. } => owes,
+            Phase::Open | Phase::Finished { .. } => 0,
         }
-        None
     }
 
     fn logs(&self, address: u32) -> bool
-        ensures { MatchBool result (Absent self.now.log.items address → ⊥) (Absent self.now.log.items address) }
+        ensures { result ≡ logs self.now.log address }
     {
-        match self.position(address) {
-            Some(_) => true,
-            None => false,
-        }
+        self.log.contains_key(&address)
     }
 
     // Whether the page is an unfinished writer whose log has this address.
     fn is_writing(&self, address: u32) -> bool
-        ensures { result ≡ true → Busy self.now address }
+        ensures { result ≡ busy self.now address }
     {
-        if self.is_unfinished() {
-            self.logs(address)
-        } else {
-            false
-        }
+        self.is_unfinished() && self.logs(address)
     }
 
-    // Sets the pair of this address or appends one.
+    // Sets the pair of this address or inserts one.
     fn write(&mut self, pair: Pair) -> Result<(), AllocError>
-        ensures { OnOk result (Logged self.old.log.items pair self.new.log.items) }
+        ensures { OnOk result (Logged self.old.log pair self.new.log) }
     {
-        match self.position(pair.address) {
-            Some(index) => self.log[index] = pair,
-            None => self.log.push(pair)?,
-        }
+        self.log.insert(pair.address, pair.cell)?;
         Ok(())
     }
 
     // A cell of the page's own log says nothing of the memory.
-    fn read(&mut self, pair: Pair, committed: usize) -> Result<(), AllocError> {
+    fn read(&mut self, pair: Pair, committed: usize) -> Result<(), AllocError>
+        ensures { OnOk result (Answered pair committed self.old self.new) }
+    {
         if self.logs(pair.address) {
             return Ok(());
         }
@@ -153,32 +144,51 @@ impl Page {
     }
 
     fn commit(&mut self, place: usize)
-        ensures { (self.new.place ≡ Some place) × ((vec_len self.old.log + 1 < 2 ^ 64 → self.new.owes ≡ vec_len self.old.log + 1)) }
+        ensures { (place_of self.new ≡ Some place) × (debt self.new ≡ btree_map_len self.old.log + 1) }
     {
-        self.place = Some(place);
-        self.owes = self.log.len().saturating_add(1);
+        self.phase = Phase::Committed {
+            place,
+            owes: self.log.len() + 1,
+        };
     }
 
-    fn work(&mut self, done: bool)
-        ensures { (self.new.owes ≡ self.old.owes - 1) × (self.new.finished ≡ done) }
+    // A work lowers what is owed by one, and the last one finishes the writer.
+    fn work(&mut self, worked: Worked)
+        ensures place { place_of self.new ≡ place_of self.old }
+        ensures debt { debt self.new ≡ cond (is_done worked) 0 (debt self.old - 1) }
+        ensures unfinished { unfinished self.new ≡ cond (is_done worked) false (unfinished self.old) }
     {
-        self.owes = self.owes.saturating_sub(1);
-        self.finished = done;
+        self.phase = match (self.phase, worked) {
+            (Phase::Committed { place, owes }, Worked::Left(_)) => Phase::Committed {
+                place,
+                owes: owes.saturating_sub(1),
+            },
+            (Phase::Committed { place, .. }, Worked::Done { .. }) => Phase::Finished { place },
+            (phase, _) => phase,
+        };
     }
 
-    fn note(&mut self, act: Act, answer: Answer, committed: usize) -> Result<(), AllocError> {
-        match (act, answer) {
-            (Act::Write { address, value }, Answer::Wrote { logged: _ }) => self.write(Pair {
+    // What an accepted call of the page's task has done.
+    fn note(&mut self, act: Act, effect: Effect, committed: usize) -> Result<(), AllocError>
+        ensures { OnOk result (Noted act effect committed self.old self.new) }
+    {
+        match (act, effect) {
+            (Act::Write { address, value }, Effect::Wrote { .. }) => self.write(Pair {
                 address,
                 cell: value,
             })?,
-            (Act::Read { address }, Answer::Read { cell, compared: _ }) => self.read(
+            (Act::Read { address }, Effect::Read { cell, .. }) => self.read(
                 Pair { address, cell },
                 committed,
             )?,
-            (Act::Commit, Answer::Committed { place, compared: _ }) => self.commit(place as usize),
-            (Act::Work, Answer::Left { cells: _ }) => self.work(false),
-            (Act::Work, Answer::Done { place: _ }) => self.work(true),
+            (
+                _,
+                Effect::Committed {
+                    place: Some(place),
+                    ..
+                },
+            ) => self.commit(place as usize),
+            (_, Effect::Worked(worked)) => self.work(worked),
             _ => {}
         }
         Ok(())
@@ -186,10 +196,10 @@ impl Page {
 
     // Lays the log over the cells.
     fn lay_over(&self, cells: &mut [u32])
-        ensures { cells.new ≡ laid self.now.log.items cells.old }
+        ensures { cells.new ≡ laid self.now.log.entries cells.old }
     {
-        for pair in self.log.iter() {
-            put(cells, *pair);
+        for (address, cell) in &self.log {
+            put(cells, *address, *cell);
         }
     }
 
@@ -197,12 +207,7 @@ impl Page {
     pub fn agrees(&self, cells: &[u32]) -> bool
         ensures { result ≡ true → Agree self.now.answers.items cells.now }
     {
-        for pair in self.answers.iter() {
-            if !is_cell(cells, *pair) {
-                return false;
-            }
-        }
-        true
+        self.answers.iter().all(|pair| is_cell(cells, *pair))
     }
 }
 
@@ -228,93 +233,93 @@ impl Book {
 
     // The page that the task's calls go to.
     fn latest(&self, task: u32) -> Option<usize>
-        ensures { IfSome result (λ index. index < vec_len self.now.pages) }
+        ensures { MatchOption result (All (λ p. p.task ≢ task) self.now.pages.items) (IsLatest task self.now.pages.items) }
     {
-        for index in (0..self.pages.len()).rev() {
-            if self.pages[index].task == task {
-                return Some(index);
-            }
-        }
-        None
+        self.pages.iter().rposition(|page| page.task == task)
     }
 
-    pub fn note(&mut self, heap: Global, call: Move, answer: Answer) -> Result<(), AllocError> {
-        if let Answer::Began { start: _ } = answer {
-            self.pages.push(Page::open(heap, call.task))?;
-            return Ok(());
+    // A begin opens a page; any other accepted call changes the latest page of its task.
+    pub fn note(&mut self, heap: Global, call: Move, answer: Answer) -> Result<(), AllocError>
+        ensures opens { OnOk result (vec_len self.new.pages ≡ vec_len self.old.pages + opened answer) }
+        ensures notes { OnOk result (IfOk answer (λ effect. opened_by effect ≡ 0 → NotedOnLatest call.task call.act effect self.old.pages.items self.new.pages.items)) }
+        ensures others { OthersStay call.task self.old.pages.items self.new.pages.items }
+        ensures denied { IsErr answer → self.new.pages.items ≡ self.old.pages.items }
+    {
+        match answer {
+            Err(_) => Ok(()),
+            Ok(Effect::Began { .. }) => {
+                self.pages.push(Page::open(heap, call.task))?;
+                Ok(())
+            }
+            Ok(effect) => {
+                let committed = self.committed();
+                match self.latest(call.task) {
+                    Some(index) => self.pages[index].note(call.act, effect, committed),
+                    None => Ok(()),
+                }
+            }
         }
-        let committed = self.committed();
-        let Some(index) = self.latest(call.task) else {
-            return Ok(());
-        };
-        self.pages[index].note(call.act, answer, committed)
     }
 
     // How many writers are committed.
     pub fn committed(&self) -> usize
         ensures { result ≡ writers self.now.pages.items }
     {
-        let mut count = 0;
-        for page in self.pages.iter() {
-            count += usize::from(page.place.is_some());
-        }
-        count
+        self.pages
+            .iter()
+            .filter(|page| page.place().is_some())
+            .count()
     }
 
     // What unfinished writers owe together.
     pub fn owed(&self) -> Option<usize>
         ensures { IfSome result (λ sum. sum ≡ debts self.now.pages.items) }
     {
-        let mut sum: usize = 0;
-        for page in self.pages.iter() {
-            sum = sum.checked_add(page.debt())?;
-        }
-        Some(sum)
+        self.pages
+            .iter()
+            .try_fold(0usize, |sum, page| sum.checked_add(page.debt()))
     }
 
-    // Where the writer at this place has its page.
-    fn writer(&self, place: usize) -> Option<&Page> {
-        for page in self.pages.iter() {
-            if page.is_at(place) {
-                return Some(page);
-            }
-        }
-        None
+    // The writer at this place.
+    fn writer(&self, place: usize) -> Option<&Page>
+        ensures { option_copied result ≡ find (λ p. is_at p place) self.now.pages.items }
+    {
+        self.pages.iter().find(|page| page.is_at(place))
     }
 
     // Lays the log of the writer at this place over the cells.
     fn lay_place(&self, place: usize, cells: &mut [u32])
         ensures { cells.new ≡ laid (log_at self.now.pages.items place) cells.old }
     {
-        for page in self.pages.iter() {
-            if page.is_at(place) {
-                page.lay_over(cells);
-                return;
-            }
+        if let Some(page) = self.writer(place) {
+            page.lay_over(cells);
         }
     }
 
+    // The unfinished writer with the lowest place.
+    fn oldest_writer(&self) -> Option<&Page>
+        ensures among { IfSome result (λ p. Contains self.now.pages.items p.now) }
+        ensures unfinished { IfSome result (λ p. unfinished p.now ≡ true) }
+        ensures lowest { MatchOption result (All (λ p. unfinished p ≡ false) self.now.pages.items) (λ p. All (λ q. unfinished q ≡ true → NotAbove (place_of p.now) (place_of q)) self.now.pages.items) }
+    {
+        self.pages
+            .iter()
+            .filter(|page| page.is_unfinished())
+            .min_by_key(|page| page.place())
+    }
+
     // The task of the oldest unfinished writer.
-    pub fn oldest(&self) -> Option<u32> {
-        for before in 0..self.committed() {
-            match self.writer(before + 1) {
-                Some(page) if page.is_unfinished() => return Some(page.task),
-                _ => {}
-            }
-        }
-        None
+    pub fn oldest(&self) -> Option<u32>
+        ensures { Oldest self.now.pages.items result }
+    {
+        self.oldest_writer().map(|page| page.task)
     }
 
     // Whether an unfinished writer's log has this address.
     pub fn is_being_written(&self, address: u32) -> bool
         ensures { result ≡ true → Writing self.now.pages.items address }
     {
-        for page in self.pages.iter() {
-            if page.is_writing(address) {
-                return true;
-            }
-        }
-        false
+        self.pages.iter().any(|page| page.is_writing(address))
     }
 
     // The cells after the first `count` committed logs. All cells are 0 at making.
@@ -322,8 +327,8 @@ impl Book {
         ensures { result ≡ after self.now.pages.items count }
     {
         let mut cells = [0; CELLS];
-        for before in 0..count {
-            self.lay_place(before + 1, &mut cells);
+        for place in 1..=count {
+            self.lay_place(place, &mut cells);
         }
         cells
     }

@@ -2,31 +2,22 @@
 use cells::refusal::Refusal;
 use std::alloc::AllocError;
 use std::io;
+use thiserror::Error;
 
-#[derive(Debug, Drop)]
+#[derive(Debug, Drop, Error)]
 pub enum Fault {
-    // The allocator found no room.
-    Room,
-    // A line could not be written.
+    #[error(transparent)]
+    Room(#[from(alloc)] AllocError),
+    #[error("a line cannot be written")]
     Output,
     // Making, outstanding or a look at the memory was refused.
-    Refusal(Refusal),
+    #[error("refused, {0}")]
+    Refusal(#[from] Refusal),
 }
 
-impl From<AllocError> for Fault {
-    fn from(_error: AllocError) -> Fault {
-        Fault::Room
-    }
-}
-
+// By hand: the error is not kept, since no more is to be trusted, and its text comes from one more C function.
 impl From<io::Error> for Fault {
     fn from(_error: io::Error) -> Fault {
         Fault::Output
-    }
-}
-
-impl From<Refusal> for Fault {
-    fn from(refusal: Refusal) -> Fault {
-        Fault::Refusal(refusal)
     }
 }

@@ -1,17 +1,20 @@
 -- What a making refuses, and the chain that an accepted one starts.
-use Rattle.std.proofs.Common.{ℕ, ◌<◌, ◌≤◌, Ok, Err, Result, arith}
+use Rattle.std.proofs.Common.{◌≡◌, ℕ, ◌<◌, ◌≤◌, List, length, Ok, Err, Result, subst, arith}
 use Rattle.cells.specs.declared.refusal.Refusal.{Refusal}
 use Rattle.cells.specs.declared.refusal.Refusal.TheVariants.{RingLength, TaskCount, LogLength, LastPlace, MemorySize, ArrayLength, TaskNumber, Address, BrokenLine, OutputFull, Torn, PhaseForbids, LogFull, PlacesSpent, RingFull, MustWait}
 use Rattle.cells.specs.Refusals.{number}
 use Rattle.filters.specs.declared.filter.Filter.{Ghosts}
-use Rattle.rules.specs.Making.{Between, MakingFault, MakingRefused}
+use Rattle.rules.specs.declared.ring.Entry.{Entry}
+use Rattle.rules.specs.declared.table.TaskRecord.{TaskRecord}
+use Rattle.rules.specs.Making.{Between, MakingFault, MakingRefused, WithinLimits}
 use Rattle.rules.specs.Promise.{made}
 use Rattle.rules.specs.State.{State, Fits}
 use Rattle.promise.proofs.Promised.{stands}
 use Rattle.promise.proofs.Promised.Laws.{Lawful}
 use Rattle.engine.specs.declared.engine.Engine.{Engine}
-use Rattle.engine.specs.Limits.{Limited, Limits}
-use Rattle.engine.specs.View.{Begun, MakeStep}
+use Rattle.engine.specs.declared.engine.Settings.{Settings}
+use Rattle.engine.specs.Limits.{Fresh, Limited, Limits}
+use Rattle.engine.specs.View.{asked, state, Begun, MakeStep}
 
 module _ {F C : Type 0} (s : State F C) where
   -- What was found within its limits before the refusal with the number n.
@@ -64,6 +67,15 @@ module _ {F C : Type 0} (s : State F C) where
   -- Wrong lengths refuse the making once the numbers are right.
   pub making_unfit : Limited (record { slots = s.slots; tasks = s.tasks; pairs = s.pairs; last = s.last }) s.size → (Fits s → ⊥) → MakingRefused s ArrayLength
   making_unfit within wrong = record { fault = wrong; earlier = none_earlier 6 (record { ring = λ _. within.ring; tasks = λ _. within.tasks; log = λ _. within.log; last = λ _. within.last; size = λ _. within.size_within; end = omega arith }) }
+
+module _ {F C : Type 0} {w : Settings} (memory : List C) {e : Engine} (fresh : Fresh w (length memory) e) (ring : List (Entry F)) (table : List (TaskRecord F)) (addresses : List ℕ) (cells : List C) where
+  -- An engine that is made has the numbers that were asked for.
+  pub fresh_state : state e memory ring table addresses cells ≡ asked w memory ring table addresses cells
+  fresh_state = λ i. record { slots = (fresh.settings i).slots; tasks = (fresh.settings i).tasks; pairs = (fresh.settings i).pairs; last = (fresh.settings i).last; size = fresh.size i; index = fresh.index i; memory = memory; ring = ring; table = table; addresses = addresses; cells = cells }
+
+  -- Where the arrays fit it, nothing refuses the making.
+  pub fresh_within : Fits (state e memory ring table addresses cells) → WithinLimits (asked w memory ring table addresses cells)
+  fresh_within fits = record { ring = fresh.within.ring; tasks = fresh.within.tasks; log = fresh.within.log; last = fresh.within.last; size = fresh.within.size_within; fits = subst Fits fresh_state fits }
 
 module _ {F C : Type 0} (Φ : Ghosts F) (laws : Lawful Φ) (before : State F C) (after : Engine → State F C) (unmade : State F C) where
   -- The chain is the making alone, and the main promise holds of it as of any chain.

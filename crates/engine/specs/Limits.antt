@@ -1,7 +1,8 @@
 -- The limits of the numbers that making is asked for, and the first of them that is broken.
-use Rattle.std.specs.Prelude.{ℕ, Ok, Err, Result}
+use Rattle.std.specs.Prelude.{◌≡◌, ℕ, Ok, Err, Result}
 use Rattle.cells.specs.declared.refusal.Refusal.{Refusal}
 use Rattle.cells.specs.declared.refusal.Refusal.TheVariants.{RingLength, TaskCount, LogLength, LastPlace, MemorySize, ArrayLength, TaskNumber, Address, BrokenLine, OutputFull, Torn, PhaseForbids, LogFull, PlacesSpent, RingFull, MustWait}
+use Rattle.engine.specs.declared.engine.Engine.{Engine}
 use Rattle.engine.specs.declared.engine.Settings.{Settings}
 use Rattle.rules.specs.Making.{Between}
 
@@ -32,3 +33,14 @@ Limits w size (Err LogFull) = ⊥
 Limits w size (Err PlacesSpent) = ⊥
 Limits w size (Err RingFull) = ⊥
 Limits w size (Err (MustWait place)) = ⊥
+
+-- What is made of the numbers that making is asked for: an engine with these and index 0, or the refusal of the first outside its limits.
+pub record Fresh (w : Settings) (cells : ℕ) (e : Engine) : Type 0 where
+  pub within : Limited w cells
+  pub settings : e.settings ≡ w
+  pub size : e.size ≡ cells
+  pub index : e.index ≡ 0
+
+abbrev pub Made : Settings → ℕ → Result Engine Refusal → Type 0
+Made w size (Ok e) = Fresh w size e
+Made w size (Err refusal) = Limits w size (Err refusal)

@@ -5,6 +5,7 @@ use Rattle.filters.specs.declared.filter.Filter.{Ghosts}
 use Rattle.engine.specs.declared.arrays.Arrays.{Arrays}
 use Rattle.engine.specs.declared.engine.Engine.{Engine}
 use Rattle.engine.specs.declared.engine.Settings.{Settings}
+use Rattle.engine.specs.declared.handed.Handed.{Handed}
 use Rattle.rules.specs.declared.ring.Entry.{Entry}
 use Rattle.rules.specs.declared.table.TaskRecord.{TaskRecord}
 use Rattle.rules.specs.Book.{opening}
@@ -15,11 +16,15 @@ use Rattle.rules.specs.State.{State}
 module _ {F C : Type 0} where
   -- The engine's numbers, the memory's cells and the arrays, each by itself.
   abbrev pub state : Engine → List C → List (Entry F) → List (TaskRecord F) → List ℕ → List C → State F C
-  state e memory ring table addresses cells = record { slots = e.slots; tasks = e.tasks; pairs = e.pairs; last = e.last; size = e.size; index = e.index; memory = memory; ring = ring; table = table; addresses = addresses; cells = cells }
+  state e memory ring table addresses cells = record { slots = e.settings.slots; tasks = e.settings.tasks; pairs = e.settings.pairs; last = e.settings.last; size = e.size; index = e.index; memory = memory; ring = ring; table = table; addresses = addresses; cells = cells }
 
   -- The same, with the arrays in their struct.
   abbrev pub view : Engine → List C → Arrays F C → State F C
   view e memory a = state e memory a.ring.now a.table.now a.addresses.now a.cells.now
+
+  -- The same, as a call looks at it.
+  abbrev pub seen : {M : Type 0} → (M → List C) → Handed M F C → State F C
+  seen contents h = state h.engine.now (contents h.memory.now) h.ring.now h.table.now h.addresses.now h.cells.now
 
   -- What a making is asked for and handed, as the state that it would leave but for ring and table.
   abbrev pub asked : Settings → List C → List (Entry F) → List (TaskRecord F) → List ℕ → List C → State F C

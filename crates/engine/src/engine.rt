@@ -1,7 +1,6 @@
 // The engine's record, and what its making is asked for.
-ghost use Rattle.std.specs.Prelude.{◌≤◌};
+ghost use Rattle.std.specs.Prelude.{◌≡◌, ◌≤◌, ◌*◌};
 
-mod admit;
 mod begin;
 mod commit;
 mod make;
@@ -27,18 +26,24 @@ pub struct Settings {
 // The numbers of one engine. No such record holds a number outside its limits or an index above the last place.
 #[derive(Drop)]
 pub struct Engine {
-    slots: u32,
-    tasks: u32,
-    pairs: u32,
-    last: u32,
+    pub(crate) settings: Settings,
     // How many cells the memory has.
-    size: u32,
+    pub(crate) size: u32,
     // How many writers have committed.
-    index: u32,
-    ghost ring_limits: { (2 ≤ slots) × (slots ≤ 1024) },
-    ghost task_limits: { (1 ≤ tasks) × (tasks ≤ 64) },
-    ghost log_limits: { (1 ≤ pairs) × (pairs ≤ 256) },
-    ghost last_limit: { 1 ≤ last },
+    pub(crate) index: u32,
+    ghost ring_limits: { (2 ≤ settings.slots) × (settings.slots ≤ 1024) },
+    ghost task_limits: { (1 ≤ settings.tasks) × (settings.tasks ≤ 64) },
+    ghost log_limits: { (1 ≤ settings.pairs) × (settings.pairs ≤ 256) },
+    ghost last_limit: { 1 ≤ settings.last },
     ghost size_limit: { size ≤ 65536 },
-    ghost index_limit: { index ≤ last },
+    ghost index_limit: { index ≤ settings.last },
+}
+
+impl Engine {
+    // Where task `task`'s log begins in the log arrays.
+    pub(crate) fn log_base(&self, task: u32) -> usize
+        ensures { result ≡ task * self.now.settings.pairs }
+    {
+        task as usize * self.settings.pairs as usize
+    }
 }

@@ -3,7 +3,6 @@ ghost use Rattle.std.specs.Prelude.{◌≡◌, ◌%◌, ◌<◌, length, set};
 ghost use Rattle.engine.specs.Parts.{Completed};
 ghost use Rattle.rules.specs.declared.ring.Status.TheVariants.{Writing};
 
-use crate::lists::{item, put};
 use filters::filter::Filter;
 use rules::ring::{Entry, Status};
 
@@ -13,15 +12,11 @@ pub(crate) fn enter<F: Filter>(ring: &mut [Entry<F>], place: u32, filter: F)
     ensures { ring.new ≡ set ring.old (place % length ring.old) (record { stamp = place; filter = filter; status = Writing }) }
 {
     let slot = place as usize % ring.len();
-    put(
-        ring,
-        slot,
-        Entry {
-            stamp: place,
-            filter,
-            status: Status::Writing,
-        },
-    );
+    ring[slot] = Entry {
+        stamp: place,
+        filter,
+        status: Status::Writing,
+    };
 }
 
 // The entry of this place is set complete.
@@ -30,13 +25,9 @@ pub(crate) fn complete<F: Filter>(ring: &mut [Entry<F>], place: u32)
     ensures { Completed place ring.old ring.new }
 {
     let slot = place as usize % ring.len();
-    let entry = item(ring, slot);
-    put(
-        ring,
-        slot,
-        Entry {
-            status: Status::Complete,
-            ..entry
-        },
-    );
+    let entry = ring[slot];
+    ring[slot] = Entry {
+        status: Status::Complete,
+        ..entry
+    };
 }

@@ -4,6 +4,7 @@
 pub mod arrays;
 pub mod engine;
 mod entries;
+mod handed;
 mod lists;
 mod log;
 mod records;

@@ -2,7 +2,6 @@
 ghost use Rattle.std.specs.Prelude.{◌<◌, length};
 ghost use Rattle.engine.specs.Parts.{EmptiedAt};
 
-use crate::lists::put;
 use filters::filter::Filter;
 use rules::table::TaskRecord;
 
@@ -11,5 +10,5 @@ pub(crate) fn empty<F: Filter>(table: &mut [TaskRecord<F>], task: u32)
     requires { task < length table.old }
     ensures { EmptiedAt F.Filter task table.old table.new }
 {
-    put(table, task as usize, TaskRecord::emptied());
+    table[task as usize] = TaskRecord::emptied();
 }

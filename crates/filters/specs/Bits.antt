@@ -1,9 +1,10 @@
 -- Bits of a number, counted from the least significant one.
-use Rattle.std.specs.Prelude.{◌≡◌, ℕ, ◌/◌, ◌%◌, ◌^◌, Bool, not, ◌==◌, bit_and, bit_or}
+use Rattle.std.specs.Prelude.{◌≡◌, ℕ, ◌^◌, Bool, not, ◌==◌, bit_and, bit_or}
+use Rattle.std.specs.Int.{bit_at}
 
 -- Bit k of n is set.
 abbrev pub Bit : ℕ → ℕ → Type 0
-Bit n k = n / 2 ^ k % 2 ≡ 1
+Bit n k = bit_at n k ≡ 1
 
 -- n with bit k set.
 abbrev pub with_bit : ℕ → ℕ → ℕ

@@ -1,8 +1,7 @@
 pub mod Bits
-pub mod Some
-pub mod Words
-pub mod Entries
-pub mod WordLaws
 pub mod BitLaws
-pub mod SomeLaws
-pub mod EntryLaws
+pub mod Words
+pub mod WordLaws
+pub mod Entries
+pub mod ShortLists
+pub mod ShortListLaws

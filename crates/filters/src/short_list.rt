@@ -1,112 +1,59 @@
 // The short list: up to 16 addresses, exact. One adding more, and it covers every address; two meet if they cover a
 // common address.
-ghost use Rattle.std.specs.Prelude.{◌≡◌, ◌≤◌, false, length, replicate};
-ghost use Rattle.filters.specs.Entries.{Covered, Adding, is_listed, covers_some, share_entry, lists_meet};
-ghost use Rattle.filters.specs.EntryLaws.{meet_decides, none_meets, meet_comm};
-ghost use Rattle.std.proofs.Common.{rules, arith};
+ghost use Rattle.filters.specs.ShortLists.{Covered, Fresh, Adding, lists_meet};
+ghost use Rattle.filters.specs.ShortListLaws.{fresh_none, adding_adds, adding_keeps, meet_decides, none_meets, meet_comm};
 
+use crate::entries::Entries;
 use crate::filter::Filter;
 
-const CAPACITY: usize = 16;
-
 #[derive(Clone, Copy, PartialEq, Eq, Debug)]
-pub struct ShortList {
-    entries: [u32; CAPACITY],
-    listed: u32,
-    every: bool,
-    ghost full: { length entries ≡ 16 },
-    ghost within: { listed ≤ 16 },
-}
-
-impl ShortList {
-    // The address is one of the listed entries.
-    fn lists(&self, address: u32) -> bool
-        ensures { result ≡ is_listed self.now.entries self.now.listed address }
-    {
-        for k in 0..self.listed as usize {
-            if self.entries[k] == address {
-                return true;
-            }
-        }
-        false
-    }
-
-    // Some entry is listed by both.
-    fn shares_entry(&self, other: &ShortList) -> bool
-        ensures { result ≡ share_entry self.now.entries self.now.listed other.now.entries other.now.listed }
-    {
-        for i in 0..self.listed as usize {
-            if other.lists(self.entries[i]) {
-                return true;
-            }
-        }
-        false
-    }
-
-    // The list covers some address.
-    fn covers_some(&self) -> bool
-        ensures { result ≡ covers_some self.now.listed self.now.every }
-    {
-        self.every || self.listed > 0
-    }
+pub enum ShortList {
+    // Covers the listed addresses.
+    Listed(Entries),
+    // Covers every address.
+    Every,
 }
 
 impl Filter for ShortList {
-    ghost covers = { λ f a. Covered f.entries f.listed f.every a };
+    ghost covers = { Covered };
 
-    ghost fresh = { λ f. (f.entries ≡ replicate 16 0) × (f.listed ≡ 0) × (f.every ≡ false) };
+    ghost fresh = { Fresh };
 
-    ghost added = { λ f a g. Adding f.entries f.listed f.every a g.entries g.listed g.every };
+    ghost added = { Adding };
 
-    ghost meeting = { λ f g. lists_meet f.entries f.listed f.every g.entries g.listed g.every };
+    ghost meeting = { lists_meet };
 
-    ghost none = { first_of (Prim.search rules, Prim.grind (arith, Self.row.coded.inj)) };
+    ghost none = { fresh_none };
 
-    ghost adds = { first_of (Prim.search rules, Prim.grind (arith, Self.row.coded.inj)) };
+    ghost adds = { adding_adds };
 
-    ghost keeps = { first_of (Prim.search rules, Prim.grind (arith, Self.row.coded.inj)) };
+    ghost keeps = { adding_keeps };
 
-    ghost common = { λ f g a _ p q. (meet_decides f.entries f.listed f.every g.entries g.listed g.every).1 (a, p, q) };
+    ghost common = { λ f g a _ p q. (meet_decides f g).1 (a, p, q) };
 
-    ghost apart = { λ f g none. none_meets f.entries f.listed f.every g.entries g.listed g.every none };
+    ghost apart = { none_meets };
 
-    ghost either = { λ f g. meet_comm f.entries f.listed f.every g.entries g.listed g.every };
+    ghost either = { meet_comm };
 
     fn new() -> ShortList {
-        ShortList {
-            entries: [0; CAPACITY],
-            listed: 0,
-            every: false,
-        }
+        ShortList::Listed(Entries::none())
     }
 
     fn add(self, address: u32) -> ShortList {
-        if self.every {
-            return self;
-        }
-        let mut entries = self.entries;
-        if self.listed as usize == CAPACITY {
-            return ShortList {
-                entries,
-                listed: self.listed,
-                every: true,
-            };
-        }
-        entries[self.listed as usize] = address;
-        ShortList {
-            entries,
-            listed: self.listed + 1,
-            every: false,
+        match self {
+            ShortList::Listed(entries) => entries
+                .with(address)
+                .map_or(ShortList::Every, ShortList::Listed),
+            ShortList::Every => ShortList::Every,
         }
     }
 
     fn meets(&self, other: &ShortList) -> bool {
-        if self.every {
-            return other.covers_some();
+        match (self, other) {
+            (ShortList::Listed(entries), ShortList::Listed(others)) => entries.shares_entry(others),
+            (ShortList::Listed(entries), ShortList::Every)
+            | (ShortList::Every, ShortList::Listed(entries)) => !entries.is_empty(),
+            (ShortList::Every, ShortList::Every) => true,
         }
-        if other.every {
-            return self.covers_some();
-        }
-        self.shares_entry(other)
     }
 }

@@ -6,7 +6,7 @@ ghost use Rattle.filters.specs.BitLaws.{zero_none, set_sets, set_keeps, bit_shar
 
 use crate::filter::Filter;
 
-const BITS: u32 = 32;
+pub(crate) const BITS: u32 = 32;
 
 #[derive(Clone, Copy, PartialEq, Eq, Debug)]
 pub struct Small {

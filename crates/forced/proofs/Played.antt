@@ -6,16 +6,15 @@ use Rattle.std.specs.List.{slice_get}
 use Rattle.cells.specs.declared.refusal.Refusal.{Refusal}
 use Rattle.cells.specs.declared.refusal.Refusal.TheVariants.{RingLength, TaskCount, LogLength, LastPlace, MemorySize, ArrayLength, TaskNumber, Address, BrokenLine, OutputFull, Torn, PhaseForbids, LogFull, PlacesSpent, RingFull, MustWait}
 use Rattle.filters.specs.declared.filter.Filter.{Ghosts}
-use Rattle.rules.specs.declared.answer.Denial.TheVariants.{Refused, Conflict as DeniedConflict, Overrun as DeniedOverrun}
+use Rattle.rules.specs.declared.answer.Denial.TheVariants.{Refused, Aborted}
 use Rattle.rules.specs.declared.answer.Worked.TheVariants.{Left, Done}
-use Rattle.rules.specs.declared.verdict.Verdict.{Verdict}
-use Rattle.rules.specs.declared.verdict.Verdict.TheVariants.{Passed, Conflict, Overrun}
 use Rattle.rules.specs.declared.ring.Entry.{Entry}
 use Rattle.rules.specs.declared.ring.Status.TheVariants.{Writing, Complete}
 use Rattle.rules.specs.declared.table.Phase.{Phase}
 use Rattle.rules.specs.declared.table.Phase.TheVariants.{Idle, Open}
 use Rattle.rules.specs.declared.table.TaskRecord.{TaskRecord}
 use Rattle.rules.specs.Calls.{Act, begin, read, write, commit, work, quit, Call, by, outstanding, ActReply, Reply}
+use Rattle.rules.specs.Check.{Verdict}
 use Rattle.rules.specs.Faults.{Accepts, Refuses}
 use Rattle.rules.specs.Lists.{At}
 use Rattle.rules.specs.Places.{Present}
@@ -112,12 +111,11 @@ module _ {F C : Type 0} (Φ : Ghosts F) (x : Exact Φ) (s : State F C) where
         (λ i. (Ok (answer.0, sym step.compared i), sym step.after i))
     read_played a (Ok answer) s' (inr step) =
         let checked = step.checked in
-        read_checked_lem a (Passed step.start answer.1) checked ∙
+        read_checked_lem a (Ok (record { start = step.start; compared = answer.1 })) checked ∙
         ap (λ (o : Option C). read_memory s (with_record s t (after_read checked.task step.start checked.reads)) answer.1 o) (at_nth step.cell) ∙
         (λ i. (Ok answer, sym step.after i))
     read_played a (Err (Refused q)) s' step = refused_played (read a) q s' step
-    read_played a (Err (DeniedConflict place compared)) s' step = read_checked_lem a (Conflict place compared) step.0 ∙ (λ i. (Err (DeniedConflict place compared), emptied_is t s' step.1 i))
-    read_played a (Err (DeniedOverrun compared)) s' step = read_checked_lem a (Overrun compared) step.0 ∙ (λ i. (Err (DeniedOverrun compared), emptied_is t s' step.1 i))
+    read_played a (Err (Aborted abort)) s' step = read_checked_lem a (Err abort) step.0 ∙ (λ i. (Err (Aborted abort), emptied_is t s' step.1 i))
 
     -- A write is played: it replaces, it appends, or it is refused.
     write_played : (a : ℕ) (c : C) (reply : ActReply (write a c)) (s' : State F C) → ActStep Φ s t (write a c) reply s' → played (write a c) ≡ (reply, s')
@@ -159,14 +157,13 @@ module _ {F C : Type 0} (Φ : Ghosts F) (x : Exact Φ) (s : State F C) where
         let next = sym step.next in
         let after : with_entry s (s.index + 1) (s.index + 1) (record { stamp = s.index + 1; filter = r.writes; status = Writing }) t (after_commit r step.start (s.index + 1)) ≡ s' =
         ap (λ (p : ℕ). with_entry s p p (record { stamp = p; filter = r.writes; status = Writing }) t (after_commit r step.start p)) next ∙ sym step.after in
-        commit_checked (Passed step.start compared) step.checked ∙ (λ i. (Ok (Some (next i), compared), after i))
+        commit_checked (Ok (record { start = step.start; compared = compared })) step.checked ∙ (λ i. (Ok (Some (next i), compared), after i))
 
     -- A commit is played: accepted or denied.
     commit_played : (reply : ActReply {C = C} commit) (s' : State F C) → ActStep Φ s t commit reply s' → played commit ≡ (reply, s')
     commit_played (Ok answer) s' step = commit_taken answer.0 answer.1 s' step
     commit_played (Err (Refused q)) s' step = refused_played commit q s' step
-    commit_played (Err (DeniedConflict place compared)) s' step = commit_checked (Conflict place compared) step.0 ∙ (λ i. (Err (DeniedConflict place compared), emptied_is t s' step.1 i))
-    commit_played (Err (DeniedOverrun compared)) s' step = commit_checked (Overrun compared) step.0 ∙ (λ i. (Err (DeniedOverrun compared), emptied_is t s' step.1 i))
+    commit_played (Err (Aborted abort)) s' step = commit_checked (Err abort) step.0 ∙ (λ i. (Err (Aborted abort), emptied_is t s' step.1 i))
 
     -- A work is played: it writes back, it finishes, or it is refused.
     work_played : (reply : ActReply {C = C} work) (s' : State F C) → ActStep Φ s t work reply s' → played work ≡ (reply, s')

@@ -3,7 +3,8 @@ use Rattle.std.proofs.Common.{◌≡◌, ℕ, List, [], ◌∷◌, ◌++◌, get
 use Rattle.cells.specs.declared.refusal.Refusal.TheVariants.{TaskNumber, Address, PhaseForbids, LogFull, RingFull, MustWait}
 use Rattle.filters.specs.contracts.small.SmallFilter.TheImpl.{ghosts}
 use Rattle.filters.specs.declared.small.Small.{Small}
-use Rattle.rules.specs.declared.answer.Denial.TheVariants.{Refused, Conflict}
+use Rattle.rules.specs.declared.answer.Abort.TheVariants.{Conflict}
+use Rattle.rules.specs.declared.answer.Denial.TheVariants.{Refused, Aborted}
 use Rattle.rules.specs.declared.answer.Worked.TheVariants.{Left, Done}
 use Rattle.rules.specs.declared.ring.Status.TheVariants.{Complete}
 use Rattle.rules.specs.declared.table.Phase.TheVariants.{Idle}
@@ -48,7 +49,7 @@ unfolding after play
 commit_says = refl
 
 -- Task 1 has read what task 0 logged: one filter is compared, and it meets.
-conflict_says : says course (by 1 commit) ≡ Err (Conflict 1 1)
+conflict_says : says course (by 1 commit) ≡ Err (Aborted (Conflict 1 1))
 unfolding after play
 conflict_says = refl
 
@@ -105,5 +106,5 @@ unfolding after play
 ring_says = refl
 
 -- So the rules leave a call no other answer.
-conflict_forced : (reply : Reply {C = ℕ} (by 1 commit)) (s' : State Small ℕ) → Step ghosts (after made course) (by 1 commit) reply s' → reply ≡ Err (Conflict 1 1)
+conflict_forced : (reply : Reply {C = ℕ} (by 1 commit)) (s' : State Small ℕ) → Step ghosts (after made course) (by 1 commit) reply s' → reply ≡ Err (Aborted (Conflict 1 1))
 conflict_forced reply s' step = sym (ap (λ (p : Reply {C = ℕ} (by 1 commit) × State Small ℕ). p.0) (plays ghosts small_exact (after made course) (by 1 commit) reply s' step)) ∙ conflict_says

@@ -1,13 +1,12 @@
 -- The check's walk and the wait's walk, as functions, give what the rules say.
-use Rattle.std.proofs.Common.{◌≡◌, ℕ, zero, suc, ◌+◌, ◌-◌, ◌<◌, ◌≤◌, Bool, true, false, cond, ltb, List, Some, None, Option, sym, refl, ap, ◌∙◌, subst, inl, inr, ⊎_elim, arith}
+use Rattle.std.proofs.Common.{◌≡◌, ℕ, zero, suc, ◌+◌, ◌-◌, ◌<◌, ◌≤◌, Bool, true, false, cond, ltb, List, Some, None, Ok, Err, Option, sym, refl, ap, ◌∙◌, subst, inl, inr, ⊎_elim, arith}
 use Rattle.std.proofs.lemmas.Bool.{cases_eq, cases_order, both_ways, cond-true, cond-false, lt-ltb, le-ltb}
 use Rattle.filters.specs.declared.filter.Filter.{Ghosts}
-use Rattle.rules.specs.declared.verdict.Verdict.{Verdict}
-use Rattle.rules.specs.declared.verdict.Verdict.TheVariants.{Passed, Conflict, Overrun}
+use Rattle.rules.specs.declared.answer.Abort.TheVariants.{Conflict, Overrun}
 use Rattle.rules.specs.declared.ring.Entry.{Entry}
 use Rattle.rules.specs.declared.ring.Status.{Status}
 use Rattle.rules.specs.declared.ring.Status.TheVariants.{Writing, Complete}
-use Rattle.rules.specs.Check.{Advanced, Asked, Met, Checks}
+use Rattle.rules.specs.Check.{Verdict, Advanced, Asked, Met, Checks}
 use Rattle.rules.specs.Faults.{Meets, Highest, Blocking}
 use Rattle.rules.specs.Places.{Present}
 use Rattle.forced.specs.Play.{writingb, entry_at, check_at, check_down, verdict, blocks_at, blocking_down}
@@ -31,15 +30,15 @@ module _ {F : Type 0} (Φ : Ghosts F) (slots : ℕ) (ring : List (Entry F)) (rea
   -- Past a place that is present and apart the walk goes on.
   walk_asked : (n new compared : ℕ) (asked : Asked Φ slots ring reads (start + suc n)) → walk (suc n) new compared ≡ walk n (moved n new asked.entry.status) (compared + 1)
   unfolding check_down
-  walk_asked n new compared asked = ap (λ (o : Option (Entry F)). at n new compared o) (entry_found asked.present) ∙ cond-false (Φ.meeting asked.entry.filter reads) (Conflict (start + suc n) (compared + 1)) (walk n (moved n new asked.entry.status) (compared + 1)) asked.apart
+  walk_asked n new compared asked = ap (λ (o : Option (Entry F)). at n new compared o) (entry_found asked.present) ∙ cond-false (Φ.meeting asked.entry.filter reads) (Err (Conflict (start + suc n) (compared + 1))) (walk n (moved n new asked.entry.status) (compared + 1)) asked.apart
 
   -- At a place that meets the walk ends with a conflict.
-  walk_met : (n new compared : ℕ) → Met Φ slots ring reads (start + suc n) → walk (suc n) new compared ≡ Conflict (start + suc n) (compared + 1)
+  walk_met : (n new compared : ℕ) → Met Φ slots ring reads (start + suc n) → walk (suc n) new compared ≡ Err (Conflict (start + suc n) (compared + 1))
   unfolding check_down
-  walk_met n new compared met = ap (λ (o : Option (Entry F)). at n new compared o) (entry_found met.present) ∙ cond-true (Φ.meeting met.entry.filter reads) (Conflict (start + suc n) (compared + 1)) (walk n (moved n new met.entry.status) (compared + 1)) met.meets
+  walk_met n new compared met = ap (λ (o : Option (Entry F)). at n new compared o) (entry_found met.present) ∙ cond-true (Φ.meeting met.entry.filter reads) (Err (Conflict (start + suc n) (compared + 1))) (walk n (moved n new met.entry.status) (compared + 1)) met.meets
 
   -- At an absent place the walk ends with an overrun.
-  walk_absent : (n new compared : ℕ) → ((e : Entry F) → Present slots ring (start + suc n) e → ⊥) → walk (suc n) new compared ≡ Overrun compared
+  walk_absent : (n new compared : ℕ) → ((e : Entry F) → Present slots ring (start + suc n) e → ⊥) → walk (suc n) new compared ≡ Err (Overrun compared)
   unfolding check_down
   walk_absent n new compared absent = ap (λ (o : Option (Entry F)). at n new compared o) (entry_absent (start + suc n) absent)
 
@@ -55,19 +54,19 @@ module _ {F : Type 0} (Φ : Ghosts F) (slots : ℕ) (ring : List (Entry F)) (rea
       go Complete is = subst (λ (i : ℕ). Advanced slots ring index i new) down (advanced_finished (complete_settled here is) before)
 
   -- A walk past places that are all present and apart passes.
-  walk_passes : (index final n new compared : ℕ) → start + n ≤ index → ((i : ℕ) → start < i → i ≤ start + n → Asked Φ slots ring reads i) → Advanced slots ring index (start + n) new → Advanced slots ring index start final → walk n new compared ≡ Passed final (compared + n)
+  walk_passes : (index final n new compared : ℕ) → start + n ≤ index → ((i : ℕ) → start < i → i ≤ start + n → Asked Φ slots ring reads i) → Advanced slots ring index (start + n) new → Advanced slots ring index start final → walk n new compared ≡ Ok (record { start = final; compared = compared + n })
   unfolding check_down
   walk_passes index final zero new compared within asked before after =
       let here : start + 0 ≡ start = omega arith in
       let same : new ≡ final = advanced_one (subst (λ (i : ℕ). Advanced slots ring index i new) here before) after in
       let none : compared ≡ compared + 0 = omega arith in
-      λ i. Passed (same i) (none i)
+      λ i. Ok (record { start = same i; compared = none i })
   walk_passes index final (suc n) new compared within asked before after =
       let here : Asked Φ slots ring reads (start + suc n) = asked (start + suc n) (omega arith) (omega arith) in
       let counted : compared + 1 + n ≡ compared + suc n = omega arith in
       walk_asked n new compared here ∙
       walk_passes index final n (moved n new here.entry.status) (compared + 1) (omega arith) (λ i low high. asked i low (omega arith)) (advanced_moved index n new here.entry within here.present before) after ∙
-      ap (λ (c : ℕ). Passed final c) counted
+      ap (λ (c : ℕ). Ok (record { start = final; compared = c })) counted
 
   -- A walk down to a place at which it ends, past places that are present and apart.
   walk_ends : (end : ℕ → Verdict) (place : ℕ) → start < place → ((m new compared : ℕ) → start + suc m ≡ place → walk (suc m) new compared ≡ end compared) → (n new compared : ℕ) → place ≤ start + n → ((i : ℕ) → place < i → i ≤ start + n → Asked Φ slots ring reads i) → walk n new compared ≡ end (compared + (start + n - place))
@@ -88,33 +87,33 @@ module _ {F : Type 0} (Φ : Ghosts F) (slots : ℕ) (ring : List (Entry F)) (rea
   -- Near enough, the check is the walk.
   near_walk : (index : ℕ) → index - start ≤ slots → verdict Φ slots ring reads index start ≡ walk (index - start) index 0
   unfolding verdict
-  near_walk index near = cond-false (ltb slots (index - start)) (Overrun 0) (walk (index - start) index 0) (le-ltb slots (index - start) near)
+  near_walk index near = cond-false (ltb slots (index - start)) (Err (Overrun 0)) (walk (index - start) index 0) (le-ltb slots (index - start) near)
 
   -- The check gives the verdict that the rules give.
   pub verdict_is : (index : ℕ) (v : Verdict) → Checks Φ slots ring reads index start v → verdict Φ slots ring reads index start ≡ v
   unfolding verdict
-  verdict_is index (Passed new compared) passes =
+  verdict_is index (Ok passed) passes =
       let top : start + (index - start) ≡ index = omega (arith, passes.advanced.low, passes.advanced.high) in
-      let counted : 0 + (index - start) ≡ compared = omega (arith, passes.counted) in
+      let counted : 0 + (index - start) ≡ passed.compared = omega (arith, passes.counted) in
       near_walk index passes.near ∙
-      walk_passes index new (index - start) index 0 (omega arith) (λ i low high. passes.asked i low (omega arith)) (record { low = omega arith; high = omega arith; finished = λ i above below. absurd (omega arith); next = inl refl }) passes.advanced ∙
-      ap (λ (c : ℕ). Passed new c) counted
-  verdict_is index (Conflict place compared) conflicts =
+      walk_passes index passed.start (index - start) index 0 (omega arith) (λ i low high. passes.asked i low (omega arith)) (record { low = omega arith; high = omega arith; finished = λ i above below. absurd (omega arith); next = inl refl }) passes.advanced ∙
+      ap (λ (c : ℕ). Ok (record { start = passed.start; compared = c })) counted
+  verdict_is index (Err (Conflict place compared)) conflicts =
       let low = conflicts.low in
       let high = conflicts.high in
       let counted : 0 + (start + (index - start) - place) + 1 ≡ compared = omega (arith, conflicts.counted) in
       near_walk index conflicts.near ∙
-      walk_ends (λ c. Conflict place (c + 1)) place low (λ m new c same. walk_met m new c (subst (Met Φ slots ring reads) (sym same) conflicts.met) ∙ ap (λ (p : ℕ). Conflict p (c + 1)) same) (index - start) index 0 (omega arith) (λ i above below. conflicts.asked i above (omega arith)) ∙
-      ap (λ (c : ℕ). Conflict place c) counted
-  verdict_is index (Overrun compared) (inl far) =
-      cond-true (ltb slots (index - start)) (Overrun 0) (walk (index - start) index 0) (lt-ltb slots (index - start) far.far) ∙ ap (λ (c : ℕ). Overrun c) (sym far.counted)
-  verdict_is index (Overrun compared) (inr lost) =
+      walk_ends (λ c. Err (Conflict place (c + 1))) place low (λ m new c same. walk_met m new c (subst (Met Φ slots ring reads) (sym same) conflicts.met) ∙ ap (λ (p : ℕ). Err (Conflict p (c + 1))) same) (index - start) index 0 (omega arith) (λ i above below. conflicts.asked i above (omega arith)) ∙
+      ap (λ (c : ℕ). Err (Conflict place c)) counted
+  verdict_is index (Err (Overrun compared)) (inl far) =
+      cond-true (ltb slots (index - start)) (Err (Overrun 0)) (walk (index - start) index 0) (lt-ltb slots (index - start) far.far) ∙ ap (λ (c : ℕ). Err (Overrun c)) (sym far.counted)
+  verdict_is index (Err (Overrun compared)) (inr lost) =
       let low = lost.low in
       let high = lost.high in
       let counted : 0 + (start + (index - start) - lost.place) ≡ compared = omega (arith, lost.counted) in
       near_walk index lost.near ∙
-      walk_ends (λ c. Overrun c) lost.place low (λ m new c same. walk_absent m new c (λ e here. lost.absent e (subst (λ (p : ℕ). Present slots ring p e) same here))) (index - start) index 0 (omega arith) (λ i above below. lost.asked i above (omega arith)) ∙
-      ap (λ (c : ℕ). Overrun c) counted
+      walk_ends (λ c. Err (Overrun c)) lost.place low (λ m new c same. walk_absent m new c (λ e here. lost.absent e (subst (λ (p : ℕ). Present slots ring p e) same here))) (index - start) index 0 (omega arith) (λ i above below. lost.asked i above (omega arith)) ∙
+      ap (λ (c : ℕ). Err (Overrun c)) counted
 
 module _ {F : Type 0} (Φ : Ghosts F) (slots : ℕ) (ring : List (Entry F)) (ws : F) (start : ℕ) where
   -- The wait's walk gives the highest blocking place, if there is one.

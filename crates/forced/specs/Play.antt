@@ -5,11 +5,10 @@ use Rattle.cells.specs.declared.refusal.Refusal.{Refusal}
 use Rattle.cells.specs.declared.refusal.Refusal.TheVariants.{ArrayLength, TaskNumber, Address, Torn, PhaseForbids, LogFull, PlacesSpent, RingFull, MustWait}
 use Rattle.filters.specs.declared.filter.Filter.{Ghosts}
 use Rattle.rules.specs.declared.answer.Denial.{Denial}
-use Rattle.rules.specs.declared.answer.Denial.TheVariants.{Refused, Conflict as DeniedConflict, Overrun as DeniedOverrun}
+use Rattle.rules.specs.declared.answer.Abort.TheVariants.{Conflict, Overrun}
+use Rattle.rules.specs.declared.answer.Denial.TheVariants.{Refused, Aborted}
 use Rattle.rules.specs.declared.answer.Worked.{Worked}
 use Rattle.rules.specs.declared.answer.Worked.TheVariants.{Left, Done}
-use Rattle.rules.specs.declared.verdict.Verdict.{Verdict}
-use Rattle.rules.specs.declared.verdict.Verdict.TheVariants.{Passed, Conflict, Overrun}
 use Rattle.rules.specs.declared.ring.Entry.{Entry}
 use Rattle.rules.specs.declared.ring.Status.{Status}
 use Rattle.rules.specs.declared.ring.Status.TheVariants.{Writing, Complete}
@@ -17,6 +16,7 @@ use Rattle.rules.specs.declared.table.Phase.{Phase}
 use Rattle.rules.specs.declared.table.Phase.TheVariants.{Idle, Open, Committed}
 use Rattle.rules.specs.declared.table.TaskRecord.{TaskRecord}
 use Rattle.rules.specs.Calls.{Act, begin, read, write, commit, work, quit, Call, by, outstanding, kind, named, ActReply, Reply}
+use Rattle.rules.specs.Check.{Verdict}
 use Rattle.rules.specs.Records.{after_read, after_append, after_commit, after_work}
 use Rattle.rules.specs.State.{State, base, with_record, with_logged, with_pair, with_cell, with_entry}
 use Rattle.rules.specs.Steps.{owes}
@@ -62,17 +62,17 @@ module _ {F : Type 0} where
     -- The check at one place: absent is overrun, meeting is conflict, else the walk goes on below,
     -- with the place before this one as the new start if this one is unfinished.
     abbrev pub check_at : F → ℕ → ℕ → ℕ → (ℕ → ℕ → Verdict) → Option (Entry F) → Verdict
-    check_at reads place new compared below None = Overrun compared
-    check_at reads place new compared below (Some e) = cond (Φ.meeting e.filter reads) (Conflict place (compared + 1)) (below (cond (writingb e.status) (place - 1) new) (compared + 1))
+    check_at reads place new compared below None = Err (Overrun compared)
+    check_at reads place new compared below (Some e) = cond (Φ.meeting e.filter reads) (Err (Conflict place (compared + 1))) (below (cond (writingb e.status) (place - 1) new) (compared + 1))
 
     -- The check's walk over the n places above start, from the highest down: the new start and the number compared so far go along.
     unfoldable pub check_down : ℕ → List (Entry F) → F → ℕ → ℕ → ℕ → ℕ → Verdict
-    check_down slots ring reads start zero new compared = Passed new compared
+    check_down slots ring reads start zero new compared = Ok (record { start = new; compared = compared })
     check_down slots ring reads start (suc n) new compared = check_at reads (start + suc n) new compared (λ new' compared'. check_down slots ring reads start n new' compared') (entry_at slots ring (start + suc n))
 
     -- The check: overrun where the start lies further back than the ring reaches, else the walk.
     unfoldable pub verdict : ℕ → List (Entry F) → F → ℕ → ℕ → Verdict
-    verdict slots ring reads index start = cond (nat_lt slots (index - start)) (Overrun 0) (check_down slots ring reads start (index - start) index 0)
+    verdict slots ring reads index start = cond (nat_lt slots (index - start)) (Err (Overrun 0)) (check_down slots ring reads start (index - start) index 0)
 
     -- The entry is writing and its filter meets the write filter.
     abbrev pub blocks_at : F → Option (Entry F) → Bool
@@ -202,9 +202,8 @@ module _ {F C : Type 0} where
 
     -- A read after its check.
     abbrev pub read_checked : State F C → ℕ → TaskRecord F → ℕ → F → Verdict → Result (C × ℕ) Denial × State F C
-    read_checked s t r a reads (Passed start compared) = read_memory s (with_record s t (after_read r start reads)) compared (slice_get s.memory a)
-    read_checked s t r a reads (Conflict place compared) = (Err (DeniedConflict place compared), emptied s t)
-    read_checked s t r a reads (Overrun compared) = (Err (DeniedOverrun compared), emptied s t)
+    read_checked s t r a reads (Ok passed) = read_memory s (with_record s t (after_read r passed.start reads)) passed.compared (slice_get s.memory a)
+    read_checked s t r a reads (Err abort) = (Err (Aborted abort), emptied s t)
 
     -- A read once the log is looked through: any other read adds the address to the read filter and checks.
     abbrev pub reading : State F C → ℕ → TaskRecord F → ℕ → Option ℕ → Result (C × ℕ) Denial × State F C
@@ -218,9 +217,8 @@ module _ {F C : Type 0} where
 
     -- A commit after its check: it raises the index by 1 and fills that place's entry.
     abbrev pub committing : State F C → ℕ → TaskRecord F → Verdict → Result (Option ℕ × ℕ) Denial × State F C
-    committing s t r (Passed start compared) = (Ok (Some (s.index + 1), compared), with_entry s (s.index + 1) (s.index + 1) (record { stamp = s.index + 1; filter = r.writes; status = Writing }) t (after_commit r start (s.index + 1)))
-    committing s t r (Conflict place compared) = (Err (DeniedConflict place compared), emptied s t)
-    committing s t r (Overrun compared) = (Err (DeniedOverrun compared), emptied s t)
+    committing s t r (Ok passed) = (Ok (Some (s.index + 1), passed.compared), with_entry s (s.index + 1) (s.index + 1) (record { stamp = s.index + 1; filter = r.writes; status = Writing }) t (after_commit r passed.start (s.index + 1)))
+    committing s t r (Err abort) = (Err (Aborted abort), emptied s t)
 
     -- A work with none left sets the entry complete and empties the record. A whole record has the entry.
     abbrev pub finishing : State F C → ℕ → TaskRecord F → Option (Entry F) → Result Worked Refusal × State F C

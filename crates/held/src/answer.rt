@@ -1,40 +1,40 @@
 // What the calls answer. A transaction that an answer holds goes on; one that it does not hold has ended.
+ghost use Rattle.std.specs.Prelude.{◌≡◌};
+ghost use Rattle.held.specs.declared.answer.Denied.TheVariants.{Refused as DeniedRefused};
+
 use crate::transaction::{CommittedTransaction, OpenTransaction};
 use cells::refusal::Refusal;
+use rules::answer::Abort;
 
-// Why the engine ended a transaction.
-#[derive(Clone, Copy, PartialEq, Eq, Debug)]
-pub enum Abort {
-    // The writer at this place may have logged a cell that was read.
-    Conflict { place: u32, compared: u32 },
-    // A place to compare with is no longer on the ring.
-    Overrun { compared: u32 },
+// A refused call changes nothing, and its transaction goes on.
+pub struct Refused<T> {
+    pub transaction: T,
+    pub refusal: Refusal,
 }
 
-pub enum Reading<C> {
-    Read {
-        transaction: OpenTransaction,
-        cell: C,
-        compared: u32,
-    },
-    Refused {
-        transaction: OpenTransaction,
-        refusal: Refusal,
-    },
+// Why a read or a commit is not accepted: a `Denial` that hands a refused transaction back.
+pub enum Denied {
+    Refused(Refused<OpenTransaction>),
+    // The transaction has ended.
     Aborted(Abort),
 }
 
-pub enum Writing {
-    Logged {
-        transaction: OpenTransaction,
-        logged: u32,
-    },
-    Refused {
-        transaction: OpenTransaction,
-        refusal: Refusal,
-    },
+impl From<Refused<OpenTransaction>> for Denied {
+    ghost from_gives = { λ refused denied. denied ≡ DeniedRefused refused };
+
+    fn from(refused: Refused<OpenTransaction>) -> Denied {
+        Denied::Refused(refused)
+    }
 }
 
+// An accepted read; `compared` is the number of filters asked.
+pub struct Reading<C> {
+    pub transaction: OpenTransaction,
+    pub cell: C,
+    pub compared: u32,
+}
+
+// An accepted commit.
 pub enum Committing {
     Committed {
         transaction: CommittedTransaction,
@@ -45,13 +45,9 @@ pub enum Committing {
     NothingLogged {
         compared: u32,
     },
-    Refused {
-        transaction: OpenTransaction,
-        refusal: Refusal,
-    },
-    Aborted(Abort),
 }
 
+// An accepted work.
 pub enum Working {
     // One cell is written back, and this many are left.
     Left {
@@ -61,20 +57,5 @@ pub enum Working {
     // The writer at this place is finished.
     Done {
         place: u32,
-    },
-    Refused {
-        transaction: CommittedTransaction,
-        refusal: Refusal,
-    },
-}
-
-pub enum Quitting {
-    // So many cells were logged, and are given up.
-    Quit {
-        logged: u32,
-    },
-    Refused {
-        transaction: OpenTransaction,
-        refusal: Refusal,
     },
 }

@@ -1,7 +1,9 @@
 -- Facts of `decimal`: its digits, its length, and that it has one reading.
 use Rattle.std.proofs.Common.{◌≡◌, ℕ, zero, suc, ◌+◌, ◌-◌, ◌*◌, ◌/◌, ◌%◌, ◌^◌, ◌<◌, ◌≤◌, List, [], ◌∷◌, ◌++◌, map, length, get_or, drop, sym, refl, ap, ◌∙◌, subst, inl, inr, append_assoc, arith, length-append}
 use lib.ListN.{length-map}
+use Rattle.std.specs.Fmt.{decimal as shown}
 use Rattle.std.specs.Int.Digits.{digits_of}
+use Rattle.std.proofs.lemmas.Fmt.{decimal_digit as shown_digit, decimal-digits_of as shown-digits_of}
 use Rattle.std.proofs.lemmas.Int.Digits.{digits_of_step, length-digits_of-le}
 use Rattle.std.proofs.lemmas.List.{map_push}
 use Rattle.std.proofs.lemmas.Bool.{cases_lt}
@@ -23,6 +25,11 @@ decimal_digit (suc n) small =
     let e : suc n % 10 ≡ suc n = omega arith in
     ap (map (λ d. 48 + d)) (digits_of_step 10 (suc n) (omega arith) (omega arith) ∙ (λ i. digits_of 10 (z i) ++ (e i ∷ [])))
 
+-- Below 2 ^ 64 the library prints the same digits.
+pub decimal_shown : (n : ℕ) → n < 2 ^ 64 → shown n ≡ decimal n
+decimal_shown zero small = shown_digit 0 (omega arith) ∙ sym (decimal_digit 0 (omega arith))
+decimal_shown (suc n) small = shown-digits_of (suc n) (omega arith) small ∙ sym (decimal_some (suc n) (omega arith))
+
 -- A larger number is what stands before its last digit, and then that digit.
 pub decimal_step : (n : ℕ) → 10 ≤ n → decimal n ≡ decimal (n / 10) ++ ((48 + n % 10) ∷ [])
 decimal_step n large =
@@ -30,10 +37,6 @@ decimal_step n large =
     ∙ ap (map (λ d. 48 + d)) (digits_of_step 10 n (omega arith) (omega arith))
     ∙ map_push (λ d. 48 + d) (digits_of 10 (n / 10)) (n % 10)
     ∙ ap (λ ds. ds ++ ((48 + n % 10) ∷ [])) (sym (decimal_some (n / 10) (omega arith)))
-
--- A larger number has one digit more than what stands before its last digit.
-pub decimal-length_step : (n : ℕ) → 10 ≤ n → length (decimal n) ≡ length (decimal (n / 10)) + 1
-decimal-length_step n large = ap length (decimal_step n large) ∙ length-append (decimal (n / 10)) ((48 + n % 10) ∷ [])
 
 -- What holds of one digit, and goes on to one digit more, holds of every decimal.
 module _ (P : ℕ → List ℕ → Type 0) (one : (n : ℕ) → n < 10 → P n ((48 + n) ∷ [])) (more : (n : ℕ) (ds : List ℕ) → 10 ≤ n → P (n / 10) ds → P n (ds ++ ((48 + n % 10) ∷ []))) where

@@ -3,13 +3,13 @@ use Rattle.std.proofs.Common.{◌≡◌, ℕ, zero, suc, ◌+◌, List, [], ◌�
 use Rattle.lines.specs.Decimal.{decimal}
 use Rattle.lines.specs.Grammar.{area_letter, letter, numbers, spelled}
 use Rattle.lines.specs.Line.{spaced, line_of}
-use Rattle.lines.specs.Printed.{placed, printed}
+use Rattle.lines.specs.Printed.{placed, told, printed}
 use Rattle.lines.specs.declared.command.Area.{Area}
 use Rattle.lines.specs.declared.command.Area.TheVariants.{Words, Tags}
 use Rattle.lines.specs.declared.command.Command.{Command}
-use Rattle.lines.specs.declared.command.Command.TheVariants.{Make, Begin, Read, Write, WriteTag, Commit, Work, Quit}
+use Rattle.lines.specs.declared.command.Command.TheVariants.{Make}
 use Rattle.lines.specs.declared.report.Report.{Report}
-use Rattle.lines.specs.declared.report.Report.TheVariants.{Made, Began, ReadWord, ReadTag, Wrote, Committed, Left, Done, Quit as Gone, Conflict, Overrun, Refused, Waiting, Broken}
+use Rattle.lines.specs.declared.report.Report.TheVariants.{Made, Began, Read, Wrote, Committed, Left, Done, Quit as Gone, Conflict, Overrun, Refused, Broken}
 use Rattle.lines.proofs.Decimals.{Digits, decimal-digits}
 
 -- No byte of the list is a line feed.
@@ -77,14 +77,8 @@ area_letter_lem Tags e = omega arith
 
 -- The letter of a command is no line feed.
 command_letter : (c : Command) → letter c ≡ 10 → ⊥
-command_letter (Make area slots tasks pairs last cells) e = area_letter_lem area e
-command_letter (Begin task) e = omega arith
-command_letter (Read task address) e = omega arith
-command_letter (Write task address value) e = omega arith
-command_letter (WriteTag task address value quality) e = omega arith
-command_letter (Commit task) e = omega arith
-command_letter (Work task) e = omega arith
-command_letter (Quit task) e = omega arith
+command_letter (Make area m) e = area_letter_lem area e
+command_letter _ e = omega arith
 
 -- The spelling of a command is one line.
 pub spelled_feed : (c : Command) → OneFeed (spelled c)
@@ -107,8 +101,8 @@ no_feed_done = ((λ e. omega arith), ((λ e. omega arith), ((λ e. omega arith),
 pub printed_feed : (r : Report) → OneFeed (printed r)
 printed_feed (Made area) = line_feed (area_letter area) (codes "ok" ∷ []) (area_letter_lem area) (no_feed_ok, tt)
 printed_feed (Began task start) = numbers_feed 98 (task ∷ start ∷ []) (λ e. omega arith)
-printed_feed (ReadWord task value compared) = numbers_feed 114 (task ∷ value ∷ compared ∷ []) (λ e. omega arith)
-printed_feed (ReadTag task value quality compared) = numbers_feed 114 (task ∷ value ∷ quality ∷ compared ∷ []) (λ e. omega arith)
+printed_feed (Read task value None compared) = numbers_feed 114 (task ∷ value ∷ compared ∷ []) (λ e. omega arith)
+printed_feed (Read task value (Some quality) compared) = numbers_feed 114 (task ∷ value ∷ quality ∷ compared ∷ []) (λ e. omega arith)
 printed_feed (Wrote task logged) = numbers_feed 119 (task ∷ logged ∷ []) (λ e. omega arith)
 printed_feed (Committed task place compared) = line_feed 99 (decimal task ∷ placed place ∷ decimal compared ∷ []) (λ e. omega arith) (no_feed_decimal task, (no_feed_placed place, (no_feed_decimal compared, tt)))
 printed_feed (Left task left) = numbers_feed 107 (task ∷ left ∷ []) (λ e. omega arith)
@@ -116,6 +110,5 @@ printed_feed (Done task place) = line_feed 107 (decimal task ∷ codes "done" �
 printed_feed (Gone task logged) = numbers_feed 113 (task ∷ logged ∷ []) (λ e. omega arith)
 printed_feed (Conflict task place compared) = numbers_feed 120 (task ∷ place ∷ compared ∷ []) (λ e. omega arith)
 printed_feed (Overrun task compared) = numbers_feed 111 (task ∷ compared ∷ []) (λ e. omega arith)
-printed_feed (Refused number) = numbers_feed 101 (number ∷ []) (λ e. omega arith)
-printed_feed (Waiting number place) = numbers_feed 101 (number ∷ place ∷ []) (λ e. omega arith)
+printed_feed (Refused reason) = numbers_feed 101 (told reason) (λ e. omega arith)
 printed_feed (Broken at) = numbers_feed 101 (9 ∷ at ∷ []) (λ e. omega arith)

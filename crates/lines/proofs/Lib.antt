@@ -2,6 +2,5 @@ pub mod Decimals
 pub mod Buffers
 pub mod Reading
 pub mod Lines
-pub mod Listed
 pub mod Spellings
 pub mod Feeds

@@ -1,6 +1,6 @@
 -- How a line is read off a text, number by number.
-use Rattle.std.proofs.Common.{◌≡◌, ℕ, ◌+◌, ◌<◌, ◌≤◌, List, [], ◌∷◌, ◌++◌, map, length, get_or, take, drop, set, sym, ap, ◌∙◌, subst, append_assoc, arith, length-drop}
-use Rattle.std.proofs.lemmas.List.{drop_more, take_more_set, map_push}
+use Rattle.std.proofs.Common.{◌≡◌, ℕ, ◌+◌, ◌<◌, ◌≤◌, List, [], ◌∷◌, ◌++◌, map, length, get_or, drop, sym, ap, ◌∙◌, subst, append_assoc, arith, length-drop}
+use Rattle.std.proofs.lemmas.List.{drop_more, map_push}
 use Rattle.lines.specs.Decimal.{decimal}
 use Rattle.lines.specs.Grammar.{Small}
 use Rattle.lines.specs.Line.{spaced, line_of}
@@ -36,11 +36,6 @@ GoesOn text at end count =
     (first : ℕ) (ns rest : List ℕ) → length ns ≤ 5 → Small ns → drop at text ≡ line_of first (map decimal ns) ++ rest
     → (ms : List ℕ) × (count + length ms ≤ 5) × Small ms × (drop end text ≡ spaced (map decimal ms) ++ (10 ∷ rest))
 
--- The numbers of a line begin behind its letter.
-pub goes_from : (text : List ℕ) (at : ℕ) → at < length text → GoesOn text at (at + 1) 0
-goes_from text at inside first ns rest few small e =
-    (ns, omega arith, small, ap (drop 1) (sym (drop_more text at 0 inside) ∙ e ∙ behind first ns rest))
-
 module _ (text : List ℕ) (at end count : ℕ) (goes : GoesOn text at end count) where
   -- One number more is read, and the line goes on behind it.
   pub goes_more : (v past : ℕ) → ByteAt text end 32 → NumberAt text (end + 1) v past → GoesOn text at past (count + 1)
@@ -69,24 +64,14 @@ module _ (text : List ℕ) (at end count : ℕ) (goes : GoesOn text at end count
       go [] le so = feed (left_byte text end 10 rest so)
       go (m ∷ ms) le so = space (omega arith) (left_byte text end 32 _ (so ∙ next_number m ms rest))
 
--- Where the text ends no line stands.
-pub no_line_end : (text : List ℕ) (at : ℕ) → length text ≤ at → NoLine text at
-no_line_end text at past first ns rest few small e = omega (arith, length-drop at text, ap length e)
-
 -- The letter and the first numbers stand at `at`, and `end` is behind them.
 abbrev pub SoFar : List ℕ → ℕ → ℕ → List ℕ → Type 0
 SoFar text at end ns = drop at text ≡ get_or text at 0 ∷ (spaced (map decimal ns) ++ drop end text)
 
 -- One number more stands behind a space.
-pub so_far_more : (text : List ℕ) (at end : ℕ) (numbers : List ℕ) (count v past : ℕ) → SoFar text at end (take count numbers) → ByteAt text end 32 → NumberAt text (end + 1) v past → count < length numbers → SoFar text at past (take (count + 1) (set numbers count v))
-so_far_more text at end numbers count v past so space is room =
-    let front : List ℕ = take count numbers in
-    let words : spaced (map decimal (take (count + 1) (set numbers count v))) ≡ spaced (map decimal front) ++ (32 ∷ decimal v) =
-    ap (λ ns. spaced (map decimal ns)) (take_more_set numbers count v room) ∙ ap spaced (map_push decimal front v) ∙ spaced-push (map decimal front) (decimal v) in
+pub so_far_more : (text : List ℕ) (at end : ℕ) (ns : List ℕ) (v past : ℕ) → SoFar text at end ns → ByteAt text end 32 → NumberAt text (end + 1) v past → SoFar text at past (ns ++ (v ∷ []))
+so_far_more text at end ns v past so space is =
+    let words : spaced (map decimal (ns ++ (v ∷ []))) ≡ spaced (map decimal ns) ++ (32 ∷ decimal v) = ap spaced (map_push decimal ns v) ∙ spaced-push (map decimal ns) (decimal v) in
     so
-    ∙ ap (λ zs. get_or text at 0 ∷ (spaced (map decimal front) ++ zs)) (byte_left text end 32 space ∙ ap (λ zs. 32 ∷ zs) is.spelt)
-    ∙ ap (λ zs. get_or text at 0 ∷ zs) (sym (append_assoc (spaced (map decimal front)) (32 ∷ decimal v) (drop past text)) ∙ ap (λ ws. ws ++ drop past text) (sym words))
-
--- With the line feed behind the numbers the line is whole.
-pub so_far_whole : (text : List ℕ) (at end : ℕ) (ns : List ℕ) → SoFar text at end ns → ByteAt text end 10 → drop at text ≡ line_of (get_or text at 0) (map decimal ns) ++ drop (end + 1) text
-so_far_whole text at end ns so feed = so ∙ ap (λ zs. get_or text at 0 ∷ (spaced (map decimal ns) ++ zs)) (byte_left text end 10 feed) ∙ sym (behind (get_or text at 0) ns (drop (end + 1) text))
+    ∙ ap (λ zs. get_or text at 0 ∷ (spaced (map decimal ns) ++ zs)) (byte_left text end 32 space ∙ ap (λ zs. 32 ∷ zs) is.spelt)
+    ∙ ap (λ zs. get_or text at 0 ∷ zs) (sym (append_assoc (spaced (map decimal ns)) (32 ∷ decimal v) (drop past text)) ∙ ap (λ ws. ws ++ drop past text) (sym words))

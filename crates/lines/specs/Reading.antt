@@ -1,12 +1,11 @@
 -- What the reader answers of a text and a position in it.
-use Rattle.std.specs.Prelude.{◌≡◌, ℕ, ◌+◌, ◌<◌, ◌≤◌, List, ◌++◌, map, length, drop, Option, MatchOption, ◌≢◌, slice_index, slice_index_or}
+use Rattle.std.specs.Prelude.{◌≡◌, ℕ, ◌+◌, ◌<◌, ◌≤◌, List, ◌++◌, map, length, drop, Some, None, Ok, Err, Option, Result, MatchOption, ◌≢◌, slice_index, slice_index_or}
 use Rattle.lines.specs.Decimal.{decimal}
 use Rattle.lines.specs.Grammar.{Small, most, letter, numbers, spelled, Allowed}
 use Rattle.lines.specs.Line.{line_of}
+use Rattle.lines.specs.declared.command.Area.{Area}
 use Rattle.lines.specs.declared.command.Command.{Command}
-use Rattle.lines.specs.declared.command.Expected.{Expected}
-use Rattle.lines.specs.declared.command.Next.{Next}
-use Rattle.lines.specs.declared.command.Next.TheVariants.{End, Line, Broken}
+use Rattle.lines.specs.declared.reader.Broken.{Broken}
 
 -- A byte is a digit.
 abbrev pub Digit : ℕ → Type 0
@@ -44,34 +43,34 @@ pub record LineAt (text : List ℕ) (at first : ℕ) (ns : List ℕ) (end : ℕ)
 abbrev pub NoLine : List ℕ → ℕ → Type 0
 NoLine text at = (first : ℕ) (ns rest : List ℕ) → length ns ≤ 5 → Small ns → drop at text ≢ line_of first (map decimal ns) ++ rest
 
--- The command is allowed where it stands, and has this letter and these numbers.
-pub record Means (e : Expected) (first : ℕ) (ns : List ℕ) (c : Command) : Type 0 where
+-- The command is allowed where it stands, given the area that is made before it, and has this letter and these numbers.
+pub record Means (e : Option Area) (first : ℕ) (ns : List ℕ) (c : Command) : Type 0 where
   pub allowed : Allowed e c
   pub begins : letter c ≡ first
   pub goes : numbers c ≡ ns
 
 -- The answer is the allowed command with this letter and these numbers, or that there is none.
-abbrev pub Meant : Expected → ℕ → List ℕ → Option Command → Type 0
+abbrev pub Meant : Option Area → ℕ → List ℕ → Option Command → Type 0
 Meant e first ns r = MatchOption r ((c : Command) → Means e first ns c → ⊥) (Means e first ns)
 
 -- An allowed command stands at a position, and `end` is the position behind its line.
-pub record CommandAt (e : Expected) (text : List ℕ) (at end : ℕ) (c : Command) : Type 0 where
+pub record CommandAt (e : Option Area) (text : List ℕ) (at end : ℕ) (c : Command) : Type 0 where
   pub spelt : drop at text ≡ spelled c ++ drop end text
   pub allowed : Allowed e c
   pub forward : at < end
   pub within : end ≤ length text
 
 -- No allowed command stands at a position.
-abbrev pub NoCommand : Expected → List ℕ → ℕ → Type 0
+abbrev pub NoCommand : Option Area → List ℕ → ℕ → Type 0
 NoCommand e text at = (c : Command) (rest : List ℕ) → Allowed e c → drop at text ≢ spelled c ++ rest
 
 -- A line begins at a position before the end of the text, and no allowed command stands there.
-pub record BrokenAt (e : Expected) (text : List ℕ) (at : ℕ) : Type 0 where
+pub record BrokenAt (e : Option Area) (text : List ℕ) (at : ℕ) : Type 0 where
   pub inside : at < length text
   pub none : NoCommand e text at
 
 -- The answer of the reader at a position: the end of the text, the command that stands there with the position behind it, or that the line is broken. But for a command the position stays.
-abbrev pub Reads : Expected → List ℕ → ℕ → ℕ → Next → Type 0
-Reads e text at end End = (at ≡ length text) × (end ≡ at)
-Reads e text at end (Line c) = CommandAt e text at end c
-Reads e text at end Broken = BrokenAt e text at × (end ≡ at)
+abbrev pub Reads : Option Area → List ℕ → ℕ → ℕ → Result (Option Command) Broken → Type 0
+Reads e text at end (Ok None) = (at ≡ length text) × (end ≡ at)
+Reads e text at end (Ok (Some c)) = CommandAt e text at end c
+Reads e text at end (Err broken) = BrokenAt e text at × (end ≡ at)

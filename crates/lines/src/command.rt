@@ -7,15 +7,22 @@ pub enum Area {
     Tags,
 }
 
+// Not the engine's `Settings`, since the text of schedules stands without the engine.
+// The numbers of a memory and its engine: how long the ring is, how many tasks there are, how long a log is, the last place, and how many cells there are.
+#[derive(Clone, Copy, Debug, PartialEq, Eq)]
+pub struct Making {
+    pub slots: u32,
+    pub tasks: u32,
+    pub pairs: u32,
+    pub last: u32,
+    pub cells: u32,
+}
+
 #[derive(Clone, Copy, Debug, PartialEq, Eq)]
 pub enum Command {
     Make {
         area: Area,
-        slots: u32,
-        tasks: u32,
-        pairs: u32,
-        last: u32,
-        cells: u32,
+        making: Making,
     },
     Begin {
         task: u32,
@@ -28,12 +35,8 @@ pub enum Command {
         task: u32,
         address: u32,
         value: u32,
-    },
-    WriteTag {
-        task: u32,
-        address: u32,
-        value: u32,
-        quality: u8,
+        // Where the memory has tags.
+        quality: Option<u8>,
     },
     Commit {
         task: u32,
@@ -44,19 +47,4 @@ pub enum Command {
     Quit {
         task: u32,
     },
-}
-
-// Where a line stands: first, or behind the line that made the memory.
-#[derive(Clone, Copy, Debug, PartialEq, Eq)]
-pub enum Expected {
-    First,
-    After(Area),
-}
-
-// What stands next in a text.
-#[derive(Clone, Copy, Debug, PartialEq, Eq)]
-pub enum Next {
-    End,
-    Line(Command),
-    Broken,
 }

@@ -2,7 +2,6 @@
 #![tactic(auto)]
 
 pub mod command;
-mod fields;
 mod line;
 pub mod reader;
 pub mod report;

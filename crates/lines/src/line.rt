@@ -1,86 +1,69 @@
 // A line of a report while it is put together.
-ghost use Rattle.std.specs.Prelude.{◌≡◌, ◌+◌, ◌*◌, ◌<◌, ◌≤◌, [], ◌∷◌, ◌++◌, map, length, take};
+ghost use Rattle.std.specs.Prelude.{◌≡◌, ◌+◌, ◌*◌, ◌<◌, ◌≤◌, [], ◌∷◌, ◌++◌, map, length};
 ghost use Rattle.lines.specs.Decimal.{decimal};
 ghost use Rattle.lines.specs.Line.{line_of, numbers_room};
 
-// The first `len` bytes are written.
+use arrayvec::ArrayVec;
+use itoa::Buffer;
+use std::marker::Model;
+
+// The longest line has 46 bytes.
 #[derive(Drop)]
 pub(crate) struct Line {
-    bytes: [u8; 64],
-    len: usize,
-    ghost within: { len ≤ 64 },
+    bytes: ArrayVec<u8, 64>,
+}
+
+// A line is what is written of it.
+impl Model for Line {
+    ghost use Rattle.std.specs.Prelude.{ℕ, List};
+
+    ghost Value = { List ℕ };
+
+    ghost view = { λ l. l.bytes.items };
 }
 
 impl Line {
     pub(crate) fn new(letter: u8) -> Line
-        ensures text { take result.len result.bytes ≡ letter ∷ [] }
-        ensures long { result.len ≡ 1 }
+        ensures { result ≡ letter ∷ [] }
     {
-        let mut bytes = [0; 64];
-        bytes[0] = letter;
-        Line { bytes, len: 1 }
-    }
-
-    // One byte more.
-    fn push(&mut self, byte: u8)
-        requires { self.old.len < 64 }
-        ensures text { take self.new.len self.new.bytes ≡ take self.old.len self.old.bytes ++ (byte ∷ []) }
-        ensures long { self.new.len ≡ self.old.len + 1 }
-    {
-        self.bytes[self.len] = byte;
-        self.len += 1;
-    }
-
-    // The number in decimal: what stands before its last digit, and then that digit.
-    fn digits(&mut self, n: u32)
-        requires { self.old.len + length (decimal n) ≤ 64 }
-        ensures text { take self.new.len self.new.bytes ≡ take self.old.len self.old.bytes ++ decimal n }
-        ensures long { self.new.len ≡ self.old.len + length (decimal n) }
-    {
-        if n >= 10 {
-            self.digits(n / 10);
-        }
-        self.push(b'0' + (n % 10) as u8);
-    }
-
-    // A space, and the number in decimal.
-    pub(crate) fn number(&mut self, n: u32)
-        requires { self.old.len + 11 ≤ 64 }
-        ensures text { take self.new.len self.new.bytes ≡ take self.old.len self.old.bytes ++ (32 ∷ decimal n) }
-        ensures long { self.new.len ≡ self.old.len + length (decimal n) + 1 }
-        ensures ten { length (decimal n) ≤ 10 }
-    {
-        self.push(b' ');
-        self.digits(n);
+        let mut bytes = ArrayVec::new();
+        bytes.push(letter);
+        Line { bytes }
     }
 
     // A space, and the word.
     pub(crate) fn word(&mut self, word: &[u8])
-        requires { self.old.len + length word.now < 64 }
-        ensures text { take self.new.len self.new.bytes ≡ take self.old.len self.old.bytes ++ (32 ∷ word.now) }
-        ensures long { self.new.len ≡ self.old.len + length word.now + 1 }
+        requires { length self.old + length word.now < 64 }
+        ensures { self.new ≡ self.old ++ (32 ∷ word.now) }
     {
-        self.push(b' ');
-        for byte in word {
-            self.push(*byte);
-        }
+        self.bytes.push(b' ');
+        self.bytes.try_extend_from_slice(word).unwrap();
+    }
+
+    // A space, and the number in decimal.
+    pub(crate) fn number(&mut self, n: u32)
+        requires { length self.old + 11 ≤ 64 }
+        ensures text { self.new ≡ self.old ++ (32 ∷ decimal n) }
+        ensures ten { length (decimal n) ≤ 10 }
+    {
+        let mut buffer = Buffer::new();
+        self.word(buffer.format(n).as_bytes());
     }
 
     // The line feed.
     pub(crate) fn feed(&mut self)
-        requires { self.old.len < 64 }
-        ensures text { take self.new.len self.new.bytes ≡ take self.old.len self.old.bytes ++ (10 ∷ []) }
-        ensures long { self.new.len ≡ self.old.len + 1 }
+        requires { length self.old < 64 }
+        ensures { self.new ≡ self.old ++ (10 ∷ []) }
     {
-        self.push(b'\n');
+        self.bytes.push(b'\n');
     }
 
     // A whole line of a letter and numbers.
     pub(crate) fn of(letter: u8, numbers: &[u32]) -> Line
         requires { length numbers.now ≤ 4 }
-        ensures text { take result.len result.bytes ≡ line_of letter (map decimal numbers.now) }
-        ensures room { length (take result.len result.bytes) ≤ numbers_room numbers.now }
-        ensures wide { length (take result.len result.bytes) ≤ 2 + 11 * length numbers.now }
+        ensures text { result ≡ line_of letter (map decimal numbers.now) }
+        ensures room { length result ≤ numbers_room numbers.now }
+        ensures wide { length result ≤ 2 + 11 * length numbers.now }
     {
         let mut made = Line::new(letter);
         for n in numbers {
@@ -92,8 +75,9 @@ impl Line {
 
     // What is written of the line.
     pub(crate) fn as_slice(&self) -> &[u8]
-        ensures { result.now ≡ take self.now.len self.now.bytes }
+        ensures text { result.now ≡ self.now }
+        ensures short { length result.now ≤ 64 }
     {
-        &self.bytes[0..self.len]
+        self.bytes.as_slice()
     }
 }

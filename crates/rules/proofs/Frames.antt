@@ -2,7 +2,6 @@
 use Rattle.std.proofs.Common.{◌≡◌, ℕ, ◌%◌, List, set, ap}
 use Rattle.rules.specs.declared.ring.Entry.{Entry}
 use Rattle.rules.specs.declared.table.TaskRecord.{TaskRecord}
-use Rattle.rules.specs.Making.{with_ring_and_table}
 use Rattle.rules.specs.State.{State, with_record, with_logged, with_pair, with_cell, with_entry}
 
 module _ {F C : Type 0} (s : State F C) where
@@ -20,10 +19,6 @@ module _ {F C : Type 0} (s : State F C) where
   -- One pair of the logs and one record of the table are written.
   pub pair_put : (t : ℕ) (r : TaskRecord F) (i a : ℕ) (c : C) (table : List (TaskRecord F)) (addresses : List ℕ) (cells : List C) → table ≡ set s.table t r → addresses ≡ set s.addresses i a → cells ≡ set s.cells i c → changed s.memory s.ring table addresses cells ≡ with_pair s t r i a c
   pair_put t r i a c table addresses cells p q w = λ j. changed s.memory s.ring (p j) (q j) (w j)
-
-  -- A making writes ring and table, and notes the size.
-  pub made_over : (ring : List (Entry F)) (table : List (TaskRecord F)) (size : ℕ) → size ≡ s.size → record { slots = s.slots; tasks = s.tasks; pairs = s.pairs; last = s.last; size = size; index = s.index; memory = s.memory; ring = ring; table = table; addresses = s.addresses; cells = s.cells } ≡ with_ring_and_table s ring table
-  made_over ring table size noted = λ i. record { slots = s.slots; tasks = s.tasks; pairs = s.pairs; last = s.last; size = noted i; index = s.index; memory = s.memory; ring = ring; table = table; addresses = s.addresses; cells = s.cells }
 
   -- One entry of the ring and one record of the table are written, and the index is set.
   pub entry_put : (index i : ℕ) (e : Entry F) (t : ℕ) (r : TaskRecord F) (ring : List (Entry F)) (table : List (TaskRecord F)) → ring ≡ set s.ring (i % s.slots) e → table ≡ set s.table t r → record { slots = s.slots; tasks = s.tasks; pairs = s.pairs; last = s.last; size = s.size; index = index; memory = s.memory; ring = ring; table = table; addresses = s.addresses; cells = s.cells } ≡ with_entry s index i e t r

@@ -50,6 +50,11 @@ module _ {F : Type 0} {slots : ℕ} {ring : List (Entry F)} where
       (λ other. above i (omega arith) high)
       (cases_eq place i)
 
+  -- The entry of a present place decides whether the place is pending.
+  pub decide_pending : {place : ℕ} {e : Entry F} → Present slots ring place e → (b : Bool) → MatchBool b (e.status ≡ Writing) (e.status ≡ Complete) → MatchBool b (Pending slots ring place) (Pending slots ring place → ⊥)
+  decide_pending {place} {e} present true is = record { entry = e; present = present; writing = is }
+  decide_pending {place} {e} present false is = complete_settled present is
+
   -- The entry of a pending place decides whether the place meets a write filter.
   pub decide_meets : (Φ : Ghosts F) {writes : F} {place : ℕ} {e : Entry F} → Pending slots ring place → At ring (place % slots) e → (b : Bool) → b ≡ Φ.meeting e.filter writes → MatchBool b (Meets Φ slots ring writes place) (Meets Φ slots ring writes place → ⊥)
   decide_meets Φ {writes} {place} {e} pending there true is = record {
@@ -58,11 +63,3 @@ module _ {F : Type 0} {slots : ℕ} {ring : List (Entry F)} where
   }
   decide_meets Φ {writes} {place} {e} pending there false is =
       λ met. both_ways (Φ.meeting e.filter writes) (sym is) (ap (λ (x : Entry F). Φ.meeting x.filter writes) (at_one there met.pending.present.there) ∙ met.met)
-
-  -- No place above is blocking, and neither is this one.
-  pub free_more : (Φ : Ghosts F) {writes : F} {place older : ℕ} → (Meets Φ slots ring writes older → ⊥) → ((i : ℕ) → older < i → i < place → Meets Φ slots ring writes i → ⊥) → (i : ℕ) → older - 1 < i → i < place → Meets Φ slots ring writes i → ⊥
-  free_more Φ {writes} {place} {older} here above i low high =
-      ⊎_elim
-      (λ same. subst (λ (k : ℕ). Meets Φ slots ring writes k → ⊥) same here)
-      (λ other. above i (omega arith) high)
-      (cases_eq older i)

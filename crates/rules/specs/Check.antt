@@ -1,10 +1,15 @@
 -- The check: no writer that committed since the start may have logged a cell that was read.
-use Rattle.std.specs.Prelude.{◌≡◌, ℕ, ◌+◌, ◌-◌, ◌<◌, ◌≤◌, true, false, ◌⊎◌, List}
+use Rattle.std.specs.Prelude.{◌≡◌, ℕ, ◌+◌, ◌-◌, ◌<◌, ◌≤◌, true, false, ◌⊎◌, List, Ok, Err, Result}
 use Rattle.filters.specs.declared.filter.Filter.{Ghosts}
 use Rattle.rules.specs.declared.ring.Entry.{Entry}
-use Rattle.rules.specs.declared.verdict.Verdict.{Verdict}
-use Rattle.rules.specs.declared.verdict.Verdict.TheVariants.{Passed, Conflict, Overrun}
+use Rattle.rules.specs.declared.answer.Abort.{Abort}
+use Rattle.rules.specs.declared.answer.Abort.TheVariants.{Conflict, Overrun}
+use Rattle.rules.specs.declared.verdict.Passed.{Passed}
 use Rattle.rules.specs.Places.{Present, Pending}
+
+-- What a check answers: the transaction goes on, or the check has ended it.
+abbrev pub Verdict : Type 0
+Verdict = Result Passed Abort
 
 module _ {F : Type 0} where
   -- The new start: one less than the lowest unfinished place above the old start, or the index if there is none.
@@ -63,6 +68,6 @@ module _ {F : Type 0} where
 
     -- What the check answers, at each verdict.
     abbrev pub Checks : ℕ → List (Entry F) → F → ℕ → ℕ → Verdict → Type 0
-    Checks slots ring reads index start (Passed new compared) = Passes slots ring reads index start new compared
-    Checks slots ring reads index start (Conflict place compared) = Conflicts slots ring reads index start place compared
-    Checks slots ring reads index start (Overrun compared) = TooFar slots index start compared ⊎ Lost slots ring reads index start compared
+    Checks slots ring reads index start (Ok passed) = Passes slots ring reads index start passed.start passed.compared
+    Checks slots ring reads index start (Err (Conflict place compared)) = Conflicts slots ring reads index start place compared
+    Checks slots ring reads index start (Err (Overrun compared)) = TooFar slots index start compared ⊎ Lost slots ring reads index start compared

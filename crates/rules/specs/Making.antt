@@ -1,5 +1,5 @@
 -- Making: what it is asked for, when it is refused, and what it leaves.
-use Rattle.std.specs.Prelude.{◌≡◌, ℕ, ◌<◌, ◌≤◌, List, length, Ok, Err, Result}
+use Rattle.std.specs.Prelude.{◌≡◌, ℕ, ◌<◌, ◌≤◌, List, length}
 use Rattle.cells.specs.declared.refusal.Refusal.{Refusal}
 use Rattle.cells.specs.declared.refusal.Refusal.TheVariants.{RingLength, TaskCount, LogLength, LastPlace, MemorySize, ArrayLength, TaskNumber, Address, BrokenLine, OutputFull, Torn, PhaseForbids, LogFull, PlacesSpent, RingFull, MustWait}
 use Rattle.cells.specs.Refusals.{number}
@@ -56,11 +56,6 @@ module _ {F C : Type 0} where
     pub last : Between 1 s.last 4294967295
     pub size : Between 0 s.size 65536
     pub fits : Fits s
-
-  -- What making finds before it changes anything.
-  abbrev pub Examined : State F C → Result Unit Refusal → Type 0
-  Examined s (Ok done) = WithinLimits s
-  Examined s (Err refusal) = MakingRefused s refusal
 
   -- The state with other arrays.
   abbrev pub with_ring_and_table : State F C → List (Entry F) → List (TaskRecord F) → State F C

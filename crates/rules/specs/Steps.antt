@@ -3,18 +3,16 @@ use Rattle.std.specs.Prelude.{◌≡◌, ℕ, ◌+◌, ◌-◌, ◌<◌, ◌⊎�
 use Rattle.cells.specs.declared.refusal.Refusal.{Refusal}
 use Rattle.filters.specs.declared.filter.Filter.{Ghosts}
 use Rattle.rules.specs.declared.answer.Denial.{Denial}
-use Rattle.rules.specs.declared.answer.Denial.TheVariants.{Refused, Conflict as DeniedConflict, Overrun as DeniedOverrun}
+use Rattle.rules.specs.declared.answer.Denial.TheVariants.{Refused, Aborted}
 use Rattle.rules.specs.declared.answer.Worked.{Worked}
 use Rattle.rules.specs.declared.answer.Worked.TheVariants.{Left, Done}
-use Rattle.rules.specs.declared.verdict.Verdict.{Verdict}
-use Rattle.rules.specs.declared.verdict.Verdict.TheVariants.{Passed, Conflict, Overrun}
 use Rattle.rules.specs.declared.ring.Entry.{Entry}
 use Rattle.rules.specs.declared.ring.Status.TheVariants.{Writing, Complete}
 use Rattle.rules.specs.declared.table.Phase.{Phase}
 use Rattle.rules.specs.declared.table.Phase.TheVariants.{Idle, Open, Committed}
 use Rattle.rules.specs.declared.table.TaskRecord.{TaskRecord}
 use Rattle.rules.specs.Calls.{Act, begin, read, write, commit, work, quit, Call, by, outstanding, ActReply, Reply}
-use Rattle.rules.specs.Check.{Checks}
+use Rattle.rules.specs.Check.{Verdict, Checks}
 use Rattle.rules.specs.Faults.{Accepts, Refuses}
 use Rattle.rules.specs.Lists.{At}
 use Rattle.rules.specs.Logs.{Lacks, First}
@@ -76,7 +74,7 @@ module _ {F C : Type 0} (Φ : Ghosts F) where
   -- Where the check passes, it answers the memory's cell together with the number compared.
   pub record ReadsMemory (s : State F C) (t a : ℕ) (answer : C × ℕ) (s' : State F C) : Type 0 where
     pub start : ℕ
-    pub checked : ReadChecks s t a (Passed start answer.1)
+    pub checked : ReadChecks s t a (Ok (record { start = start; compared = answer.1 }))
     pub cell : At s.memory a answer.0
     pub after : s' ≡ with_record s t (after_read checked.task start checked.reads)
 
@@ -121,7 +119,7 @@ module _ {F C : Type 0} (Φ : Ghosts F) where
   -- Where the check passes, it raises the index by 1 and fills that place's entry with its stamp, the write filter and status writing.
   pub record Commits (s : State F C) (t place compared : ℕ) (s' : State F C) : Type 0 where
     pub start : ℕ
-    pub checked : CommitChecks s t (Passed start compared)
+    pub checked : CommitChecks s t (Ok (record { start = start; compared = compared }))
     pub next : place ≡ s.index + 1
     pub after : s' ≡ with_entry s place place (record { stamp = place; filter = checked.task.writes; status = Writing }) t (after_commit checked.task start place)
 
@@ -166,13 +164,11 @@ module _ {F C : Type 0} (Φ : Ghosts F) where
   -- Why a read or a commit is not accepted. Conflict and overrun empty the caller's record and change nothing else.
   abbrev pub ReadDenied : State F C → ℕ → ℕ → Denial → State F C → Type 0
   ReadDenied s t a (Refused refusal) s' = RefusedStep s (by t (read a)) refusal s'
-  ReadDenied s t a (DeniedConflict place compared) s' = ReadChecks s t a (Conflict place compared) × Empties s t s'
-  ReadDenied s t a (DeniedOverrun compared) s' = ReadChecks s t a (Overrun compared) × Empties s t s'
+  ReadDenied s t a (Aborted abort) s' = ReadChecks s t a (Err abort) × Empties s t s'
 
   abbrev pub CommitDenied : State F C → ℕ → Denial → State F C → Type 0
   CommitDenied s t (Refused refusal) s' = RefusedStep s (by t commit) refusal s'
-  CommitDenied s t (DeniedConflict place compared) s' = CommitChecks s t (Conflict place compared) × Empties s t s'
-  CommitDenied s t (DeniedOverrun compared) s' = CommitChecks s t (Overrun compared) × Empties s t s'
+  CommitDenied s t (Aborted abort) s' = CommitChecks s t (Err abort) × Empties s t s'
 
   abbrev pub CommitTaken : State F C → ℕ → Option ℕ → ℕ → State F C → Type 0
   CommitTaken s t None compared s' = CommitsNothing s t compared s'

@@ -1,18 +1,26 @@
 // What calls answer besides a refusal alone.
 ghost use Rattle.std.specs.Prelude.{◌≡◌};
-ghost use Rattle.rules.specs.declared.answer.Denial.TheVariants.{Refused};
+ghost use Rattle.rules.specs.declared.answer.Denial.TheVariants.{Aborted, Refused};
 
 use cells::refusal::Refusal;
+
+// How the check ends a transaction: the caller's record is emptied. `compared` is the number of filters asked, the
+// conflicting one included.
+#[derive(Clone, Copy, PartialEq, Eq, Debug)]
+pub enum Abort {
+    // The writer at this place may have logged a cell that was read.
+    Conflict { place: u32, compared: u32 },
+    // A place to compare with is no longer on the ring.
+    Overrun { compared: u32 },
+}
 
 // Why a read or a commit is not accepted.
 #[derive(Clone, Copy, PartialEq, Eq, Debug)]
 pub enum Denial {
     // Nothing is changed.
     Refused(Refusal),
-    // The writer at this place may have logged a cell that was read: the caller's record is emptied.
-    Conflict { place: u32, compared: u32 },
-    // A place to compare with is no longer on the ring: the caller's record is emptied.
-    Overrun { compared: u32 },
+    // The transaction has ended.
+    Aborted(Abort),
 }
 
 impl From<Refusal> for Denial {
@@ -20,6 +28,14 @@ impl From<Refusal> for Denial {
 
     fn from(refusal: Refusal) -> Denial {
         Denial::Refused(refusal)
+    }
+}
+
+impl From<Abort> for Denial {
+    ghost from_gives = { λ abort denial. denial ≡ Aborted abort };
+
+    fn from(abort: Abort) -> Denial {
+        Denial::Aborted(abort)
     }
 }
 

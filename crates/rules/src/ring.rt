@@ -1,5 +1,7 @@
 // The ring: one entry a slot. Place i, from 1 up, belongs to slot i mod the ring's length.
+ghost use Rattle.std.specs.Prelude.{◌≡◌, MatchBool};
 ghost use Rattle.rules.specs.Making.{Vacant};
+ghost use Rattle.rules.specs.declared.ring.Status.TheVariants.{Complete, Writing};
 
 use filters::filter::Filter;
 
@@ -27,5 +29,12 @@ impl<F: Filter> Entry<F> {
             filter: F::new(),
             status: Status::Complete,
         }
+    }
+
+    // Whether the writer still writes its cells back.
+    pub fn is_writing(&self) -> bool
+        ensures { MatchBool result (self.now.status ≡ Writing) (self.now.status ≡ Complete) }
+    {
+        matches!(self.status, Status::Writing)
     }
 }

@@ -12,7 +12,8 @@ pub enum Phase {
     Committed,
 }
 
-// What the engine keeps of one task's transaction.
+// What the engine keeps of one task's transaction. It is one plain record and no enum by phase: whatever is handed over must
+// have this form, a torn record too, whose numbers do not go with its phase.
 #[derive(Clone, Copy)]
 pub struct TaskRecord<F> {
     pub phase: Phase,
@@ -47,11 +48,7 @@ impl<F: Filter> TaskRecord<F> {
         TaskRecord {
             phase: Phase::Open,
             start,
-            place: 0,
-            logged: 0,
-            written: 0,
-            reads: F::new(),
-            writes: F::new(),
+            ..TaskRecord::emptied()
         }
     }
 }

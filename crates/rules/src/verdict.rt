@@ -1,12 +1,12 @@
 // The verdict of a check.
+use crate::answer::Abort;
 
-// How a check ends. `compared` is the number of filters asked, the conflicting one included.
-#[derive(Clone, Copy)]
-pub enum Verdict {
-    // The transaction goes on, with this start.
-    Passed { start: u32, compared: u32 },
-    // A writer at this place logged what may have been read.
-    Conflict { place: u32, compared: u32 },
-    // A place above the start is no longer on the ring.
-    Overrun { compared: u32 },
+// A check that the transaction passes: it goes on with this start. `compared` is the number of filters asked.
+#[derive(Clone, Copy, PartialEq, Eq, Debug)]
+pub struct Passed {
+    pub start: u32,
+    pub compared: u32,
 }
+
+// The transaction goes on, or the check has ended it.
+pub type Verdict = Result<Passed, Abort>;

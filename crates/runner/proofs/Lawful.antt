@@ -1,18 +1,18 @@
 -- Every run keeps the law, where the filter leaves nothing open.
-use Rattle.std.proofs.Common.{◌≡◌, ℕ, suc, ◌+◌, ◌*◌, ◌%◌, ◌<◌, ◌≤◌, Bool, true, false, List, [], ◌∷◌, ◌++◌, length, sym, refl, ap, ◌∙◌, subst, arith}
+use Rattle.std.proofs.Common.{◌≡◌, ℕ, suc, ◌+◌, ◌*◌, ◌%◌, ◌<◌, ◌≤◌, Bool, true, false, List, [], ◌∷◌, ◌++◌, length, None, sym, refl, ap, ◌∙◌, subst, arith}
 use Rattle.filters.specs.declared.filter.Filter.{Ghosts}
 use Rattle.forced.specs.Play.{Exact}
 use Rattle.lines.specs.declared.command.Area.{Area}
 use Rattle.lines.specs.declared.command.Area.TheVariants.{Words, Tags}
 use Rattle.lines.specs.declared.command.Command.{Command}
-use Rattle.lines.specs.declared.command.Command.TheVariants.{Make, Begin, Read, Write, WriteTag, Commit, Work, Quit}
-use Rattle.lines.specs.declared.command.Expected.TheVariants.{First}
+use Rattle.lines.specs.declared.command.Command.TheVariants.{Make}
+use Rattle.lines.specs.declared.command.Making.{Making}
 use Rattle.lines.specs.declared.report.Report.TheVariants.{Broken}
 use Rattle.lines.specs.Grammar.{spelled, Allowed}
 use Rattle.lines.specs.Printed.{printed}
 use Rattle.lines.proofs.Spellings.{spelled-unique}
 use Rattle.runner.specs.Law.{output, Outcome, long, unmade, each, broken, Agreed, alike as both-alike, over as both-over, first_cut as cut-first, second_cut as cut-second, Law}
-use Rattle.runner.specs.Runs.{NoLine, from, wanted, word_made, word_shown, tag_made, tag_shown, FirstLine, Runs, long as run_long, empty, breaks, starts}
+use Rattle.runner.specs.Runs.{NoLine, from, word_made, word_shown, tag_made, tag_shown, FirstLine, Runs, long as run_long, empty, breaks, starts}
 use Rattle.runner.specs.Texts.{line_count, WholeLines, Schedule, nothing as no_lines}
 use Rattle.runner.proofs.Agreement.{AgreedLines, alike, over, first_cut, second_cut}
 use Rattle.runner.proofs.LineCounts.{count-append, count-spelled, first_line, begun}
@@ -23,61 +23,49 @@ use Rattle.runner.proofs.Says.{nothing, prints_output, stop}
 module _ {F : Type 0} (Φ : Ghosts F) where
   -- What the run behind a first line prints, over words or over tags. No other line makes an engine.
   abbrev FirstSays : Command → List ℕ → List ℕ → Bool → Type 0
-  FirstSays (Make Words slots tasks pairs last cells) rest lines cut = StartSays Φ word_made word_shown Words (wanted slots tasks pairs last cells) rest lines cut
-  FirstSays (Make Tags slots tasks pairs last cells) rest lines cut = StartSays Φ tag_made tag_shown Tags (wanted slots tasks pairs last cells) rest lines cut
-  FirstSays (Begin task) rest lines cut = ⊥
-  FirstSays (Read task address) rest lines cut = ⊥
-  FirstSays (Write task address value) rest lines cut = ⊥
-  FirstSays (WriteTag task address value quality) rest lines cut = ⊥
-  FirstSays (Commit task) rest lines cut = ⊥
-  FirstSays (Work task) rest lines cut = ⊥
-  FirstSays (Quit task) rest lines cut = ⊥
+  FirstSays (Make Words m) rest lines cut = StartSays Φ word_made word_shown Words m rest lines cut
+  FirstSays (Make Tags m) rest lines cut = StartSays Φ tag_made tag_shown Tags m rest lines cut
+  FirstSays _ rest lines cut = ⊥
 
   -- The command makes an engine.
   data MakesOne : Command → Type 0 where
-    make_one : (area : Area) (slots tasks pairs last cells : ℕ) → MakesOne (Make area slots tasks pairs last cells)
+    make_one : (area : Area) (m : Making) → MakesOne (Make area m)
 
   -- A first line makes an engine.
-  first_makes : (c : Command) → Allowed First c → MakesOne c
-  first_makes (Make area slots tasks pairs last cells) allowed = make_one area slots tasks pairs last cells
-  first_makes (Begin task) allowed = absurd allowed
-  first_makes (Read task address) allowed = absurd allowed
-  first_makes (Write task address value) allowed = absurd allowed
-  first_makes (WriteTag task address value quality) allowed = absurd allowed
-  first_makes (Commit task) allowed = absurd allowed
-  first_makes (Work task) allowed = absurd allowed
-  first_makes (Quit task) allowed = absurd allowed
+  first_makes : (c : Command) → Allowed None c → MakesOne c
+  first_makes (Make area m) allowed = make_one area m
+  first_makes _ allowed = absurd allowed
 
   -- A run behind a first line prints what it says, over either area.
   first_heard : {c : Command} (rest bytes after : List ℕ) (answer : ℕ) → MakesOne c → FirstLine Φ c rest (from bytes 0) after answer → Heard (FirstSays c rest) bytes after answer
-  first_heard rest bytes after answer (make_one Words slots tasks pairs last cells) st = start_heard Φ word_made word_shown Words (wanted slots tasks pairs last cells) rest bytes after answer st
-  first_heard rest bytes after answer (make_one Tags slots tasks pairs last cells) st = start_heard Φ tag_made tag_shown Tags (wanted slots tasks pairs last cells) rest bytes after answer st
+  first_heard rest bytes after answer (make_one Words m) st = start_heard Φ word_made word_shown Words m rest bytes after answer st
+  first_heard rest bytes after answer (make_one Tags m) st = start_heard Φ tag_made tag_shown Tags m rest bytes after answer st
 
   -- Behind the same first line, what is printed for the same whole lines is the same, over either area.
   first_agree : Exact Φ → {c : Command} (rest rest' p q : List ℕ) (a b : Bool) → MakesOne c → FirstSays c rest p a → FirstSays c rest' q b → (left behind behind' : List ℕ) → WholeLines left → rest ≡ left ++ behind → rest' ≡ left ++ behind' → AgreedLines (suc (line_count left)) p q a b
-  first_agree exact rest rest' p q a b (make_one Words slots tasks pairs last cells) one two left behind behind' whole e e' = start_agree Φ word_made word_shown Words (wanted slots tasks pairs last cells) exact one two left behind behind' whole e e'
-  first_agree exact rest rest' p q a b (make_one Tags slots tasks pairs last cells) one two left behind behind' whole e e' = start_agree Φ tag_made tag_shown Tags (wanted slots tasks pairs last cells) exact one two left behind behind' whole e e'
+  first_agree exact rest rest' p q a b (make_one Words m) one two left behind behind' whole e e' = start_agree Φ word_made word_shown Words m exact one two left behind behind' whole e e'
+  first_agree exact rest rest' p q a b (make_one Tags m) one two left behind behind' whole e e' = start_agree Φ tag_made tag_shown Tags m exact one two left behind behind' whole e e'
 
   -- A run behind a first line comes out by the lines of its text, over either area.
-  first_outcome : {c : Command} (text rest lines : List ℕ) (cut : Bool) → length text ≤ 8192 → MakesOne c → Allowed First c → text ≡ spelled c ++ rest → FirstSays c rest lines cut → cut ≡ false → Outcome Φ text lines
-  first_outcome text rest lines cut short (make_one Words slots tasks pairs last cells) allowed spelt said whole = go (start_course Φ word_made word_shown Words (wanted slots tasks pairs last cells) said whole)
+  first_outcome : {c : Command} (text rest lines : List ℕ) (cut : Bool) → length text ≤ 8192 → MakesOne c → Allowed None c → text ≡ spelled c ++ rest → FirstSays c rest lines cut → cut ≡ false → Outcome Φ text lines
+  first_outcome text rest lines cut short (make_one Words m) allowed spelt said whole = go (start_course Φ word_made word_shown Words m said whole)
     where
-      go : StartCourse Φ word_made word_shown Words (wanted slots tasks pairs last cells) rest lines → Outcome Φ text lines
-      go (is_unmade q u e) = unmade short (Make Words slots tasks pairs last cells) rest q spelt allowed u e
-      go (is_made others e more) = made_outcome Φ Words slots tasks pairs last cells text rest lines others short allowed spelt e more
-  first_outcome text rest lines cut short (make_one Tags slots tasks pairs last cells) allowed spelt said whole = go (start_course Φ tag_made tag_shown Tags (wanted slots tasks pairs last cells) said whole)
+      go : StartCourse Φ word_made word_shown Words m rest lines → Outcome Φ text lines
+      go (is_unmade q u e) = unmade short (Make Words m) rest q spelt allowed u e
+      go (is_made others e more) = made_outcome Φ Words m text rest lines others short allowed spelt e more
+  first_outcome text rest lines cut short (make_one Tags m) allowed spelt said whole = go (start_course Φ tag_made tag_shown Tags m said whole)
     where
-      go : StartCourse Φ tag_made tag_shown Tags (wanted slots tasks pairs last cells) rest lines → Outcome Φ text lines
-      go (is_unmade q u e) = unmade short (Make Tags slots tasks pairs last cells) rest q spelt allowed u e
-      go (is_made others e more) = made_outcome Φ Tags slots tasks pairs last cells text rest lines others short allowed spelt e more
+      go : StartCourse Φ tag_made tag_shown Tags m rest lines → Outcome Φ text lines
+      go (is_unmade q u e) = unmade short (Make Tags m) rest q spelt allowed u e
+      go (is_made others e more) = made_outcome Φ Tags m text rest lines others short allowed spelt e more
 
   -- What a whole run prints.
   data Tells (text : List ℕ) : List ℕ → Bool → Type 0 where
     tells_long : 8192 < length text → Tells text (printed (Broken 0)) false
     tells_nothing : text ≡ [] → Tells text [] false
-    tells_broken : length text ≤ 8192 → 0 < length text → NoLine First text → Tells text (printed (Broken 1)) false
+    tells_broken : length text ≤ 8192 → 0 < length text → NoLine None text → Tells text (printed (Broken 1)) false
     tells_cut : Tells text [] true
-    tells_start : {lines : List ℕ} {cut : Bool} → length text ≤ 8192 → (c : Command) (rest : List ℕ) → Allowed First c → text ≡ spelled c ++ rest → FirstSays c rest lines cut → Tells text lines cut
+    tells_start : {lines : List ℕ} {cut : Bool} → length text ≤ 8192 → (c : Command) (rest : List ℕ) → Allowed None c → text ≡ spelled c ++ rest → FirstSays c rest lines cut → Tells text lines cut
 
   -- A whole run prints what it says.
   heard : (text bytes after : List ℕ) (answer : ℕ) → Runs Φ text bytes after answer → Heard (Tells text) bytes after answer
@@ -91,8 +79,8 @@ module _ {F : Type 0} (Φ : Ghosts F) where
   -- A run that is not cut short comes out by the lines of its text.
   tells_outcome : {text lines : List ℕ} {cut : Bool} → Tells text lines cut → cut ≡ false → Outcome Φ text lines
   tells_outcome (tells_long far) whole = long far refl
-  tells_outcome {text = text} (tells_nothing none) whole = each (omega (arith, ap length none)) First (subst (λ (t : List ℕ). Schedule t First) (sym none) no_lines) (sym (ap line_count none))
-  tells_outcome {text = text} (tells_broken short some none) whole = broken short [] text [] First refl no_lines some none refl refl
+  tells_outcome {text = text} (tells_nothing none) whole = each (omega (arith, ap length none)) None (subst (λ (t : List ℕ). Schedule t None) (sym none) no_lines) (sym (ap line_count none))
+  tells_outcome {text = text} (tells_broken short some none) whole = broken short [] text [] None refl no_lines some none refl refl
   tells_outcome tells_cut whole = absurd (omega (arith, ap stop whole))
   tells_outcome {text = text} {lines = lines} {cut = cut} (tells_start short c rest allowed spelt said) whole = first_outcome text rest lines cut short (first_makes c allowed) allowed spelt said whole
 

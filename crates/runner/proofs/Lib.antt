@@ -1,5 +1,7 @@
+pub mod Outputs
 pub mod Pace
 pub mod Going
+pub mod Buffers
 pub mod Says
 pub mod LineCounts
 pub mod Agreement

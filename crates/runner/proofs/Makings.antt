@@ -1,19 +1,20 @@
 -- A making has one outcome, where the filter leaves nothing open: one refusal, or one state.
 use Rattle.std.proofs.Common.{◌≡◌, ℕ, List, length, replicate, sym, ◌∙◌}
 use Rattle.cells.specs.declared.refusal.Refusal.{Refusal}
-use Rattle.cells.specs.declared.refusal.Refusal.TheVariants.{RingLength, TaskCount, LogLength, LastPlace, MemorySize, ArrayLength, TaskNumber, Address, BrokenLine, OutputFull, Torn, PhaseForbids, LogFull, PlacesSpent, RingFull, MustWait}
+use Rattle.cells.specs.declared.refusal.Refusal.TheVariants.{ArrayLength}
 use Rattle.filters.specs.declared.filter.Filter.{Ghosts}
 use Rattle.forced.specs.Play.{Exact, blank}
 use Rattle.forced.proofs.Made.{vacant, made_is, refused_once}
+use Rattle.lines.specs.declared.command.Making.{Making}
 use Rattle.rules.specs.declared.ring.Entry.{Entry}
 use Rattle.rules.specs.declared.table.Phase.TheVariants.{Idle}
 use Rattle.rules.specs.declared.table.TaskRecord.{TaskRecord}
 use Rattle.rules.specs.Making.{Makes, MakingFault, MakingRefused, with_ring_and_table}
 use Rattle.rules.specs.State.{State}
 use Rattle.runner.specs.Law.{Unmade}
-use Rattle.runner.specs.Runs.{Asked, handed}
+use Rattle.runner.specs.Runs.{handed}
 
-module _ {F C : Type 0} (Φ : Ghosts F) (made : ℕ → ℕ → C) (w : Asked) where
+module _ {F C : Type 0} (Φ : Ghosts F) (made : ℕ → ℕ → C) (w : Making) where
   -- An engine is made of these numbers, over arrays of the right lengths and cells at 0.
   pub record MadeOf (s : State F C) : Type 0 where
     pub ring : List (Entry F)
@@ -22,25 +23,11 @@ module _ {F C : Type 0} (Φ : Ghosts F) (made : ℕ → ℕ → C) (w : Asked) w
     pub table_length : length table ≡ w.tasks
     pub makes : Makes Φ (handed made w ring table) s
 
-module _ {F C : Type 0} (Φ : Ghosts F) (exact : Exact Φ) (made : ℕ → ℕ → C) (w : Asked) where
+module _ {F C : Type 0} (Φ : Ghosts F) (exact : Exact Φ) (made : ℕ → ℕ → C) (w : Making) where
   -- What ring and table held before does not matter to the faults.
   fault_same : (ring ring' : List (Entry F)) (table table' : List (TaskRecord F)) → length ring ≡ length ring' → length table ≡ length table' → (q : Refusal) → MakingFault (handed made w ring table) q → MakingFault (handed made w ring' table') q
-  fault_same ring ring' table table' long tall RingLength fault = fault
-  fault_same ring ring' table table' long tall TaskCount fault = fault
-  fault_same ring ring' table table' long tall LogLength fault = fault
-  fault_same ring ring' table table' long tall LastPlace fault = fault
-  fault_same ring ring' table table' long tall MemorySize fault = fault
   fault_same ring ring' table table' long tall ArrayLength fault = λ fits. fault (record { ring = long ∙ fits.ring; table = tall ∙ fits.table; addresses = fits.addresses; cells = fits.cells; memory = fits.memory })
-  fault_same ring ring' table table' long tall TaskNumber fault = fault
-  fault_same ring ring' table table' long tall Address fault = fault
-  fault_same ring ring' table table' long tall BrokenLine fault = fault
-  fault_same ring ring' table table' long tall OutputFull fault = fault
-  fault_same ring ring' table table' long tall Torn fault = fault
-  fault_same ring ring' table table' long tall PhaseForbids fault = fault
-  fault_same ring ring' table table' long tall LogFull fault = fault
-  fault_same ring ring' table table' long tall PlacesSpent fault = fault
-  fault_same ring ring' table table' long tall RingFull fault = fault
-  fault_same ring ring' table table' long tall (MustWait place) fault = fault
+  fault_same ring ring' table table' long tall _ fault = fault
 
   -- A making that is refused is not accepted.
   pub refused_or_made : (q : Refusal) (s : State F C) → Unmade Φ made w q → MadeOf Φ made w s → ⊥

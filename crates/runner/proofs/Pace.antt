@@ -1,22 +1,24 @@
 -- A line that is printed is at most seven times as long as the line that asks for it.
 use Rattle.std.proofs.Common.{ℕ, ◌+◌, ◌*◌, ◌≤◌, List, [], ◌∷◌, map, length, Some, None, Ok, Err, Option, ap, arith, length-append}
 use Rattle.cells.specs.declared.refusal.Refusal.{Refusal}
-use Rattle.cells.specs.declared.refusal.Refusal.TheVariants.{RingLength, TaskCount, LogLength, LastPlace, MemorySize, ArrayLength, TaskNumber, Address, BrokenLine, OutputFull, Torn, PhaseForbids, LogFull, PlacesSpent, RingFull, MustWait}
+use Rattle.cells.specs.declared.refusal.Refusal.TheVariants.{MustWait}
 use Rattle.filters.specs.declared.filter.Filter.{Ghosts}
 use Rattle.lines.specs.declared.command.Command.{Command}
-use Rattle.lines.specs.declared.command.Command.TheVariants.{Make, Begin, Read, Write, WriteTag, Commit, Work, Quit}
+use Rattle.lines.specs.declared.command.Command.TheVariants.{Make, Begin, Read, Write, Commit, Work, Quit}
 use Rattle.lines.specs.declared.report.Report.{Report}
+use Rattle.lines.specs.declared.report.Report.TheVariants.{Refused as RefusedLine}
 use Rattle.lines.specs.Decimal.{decimal}
 use Rattle.lines.specs.Grammar.{spelled}
 use Rattle.lines.specs.Line.{spaced, line_of}
 use Rattle.lines.specs.Printed.{room}
 use Rattle.lines.proofs.Decimals.{decimal-length_ge}
 use Rattle.rules.specs.declared.answer.Denial.{Denial}
-use Rattle.rules.specs.declared.answer.Denial.TheVariants.{Refused, Conflict, Overrun}
+use Rattle.rules.specs.declared.answer.Abort.TheVariants.{Conflict, Overrun}
+use Rattle.rules.specs.declared.answer.Denial.TheVariants.{Refused, Aborted}
 use Rattle.rules.specs.declared.answer.Worked.TheVariants.{Left, Done}
 use Rattle.rules.specs.Calls.{Act, begin, read, write, commit, work, quit, ActReply}
 use Rattle.rules.specs.State.{State}
-use Rattle.runner.specs.Lines.{refusal, denial, told, asks, Played}
+use Rattle.runner.specs.Lines.{denial, told, asks, Played}
 
 -- Numbers behind the letter of a line take at least a space and a digit each.
 spaced_ge : (ns : List ℕ) → 2 * length ns ≤ length (spaced (map decimal ns))
@@ -28,29 +30,15 @@ line_ge : (l n : ℕ) (ns : List ℕ) → 3 + length (decimal n) + 2 * length ns
 line_ge l n ns = omega (arith, spaced_ge ns, length-append (decimal n) (spaced (map decimal ns)), length-append (spaced (map decimal (n ∷ ns))) (10 ∷ []))
 
 -- The line of a refusal has at most 24 bytes.
-pub refusal_room : (q : Refusal) → room (refusal q) ≤ 24
-refusal_room RingLength = omega arith
-refusal_room TaskCount = omega arith
-refusal_room LogLength = omega arith
-refusal_room LastPlace = omega arith
-refusal_room MemorySize = omega arith
-refusal_room ArrayLength = omega arith
-refusal_room TaskNumber = omega arith
-refusal_room Address = omega arith
-refusal_room BrokenLine = omega arith
-refusal_room OutputFull = omega arith
-refusal_room Torn = omega arith
-refusal_room PhaseForbids = omega arith
-refusal_room LogFull = omega arith
-refusal_room PlacesSpent = omega arith
-refusal_room RingFull = omega arith
+pub refusal_room : (q : Refusal) → room (RefusedLine q) ≤ 24
 refusal_room (MustWait place) = omega arith
+refusal_room _ = omega arith
 
 -- The line of a denial has at most 25 bytes and the digits of its task.
 denial_room : (t : ℕ) (d : Denial) → room (denial t d) ≤ 25 + length (decimal t)
 denial_room t (Refused q) = omega (arith, refusal_room q)
-denial_room t (Conflict place compared) = omega arith
-denial_room t (Overrun compared) = omega arith
+denial_room t (Aborted (Conflict place compared)) = omega arith
+denial_room t (Aborted (Overrun compared)) = omega arith
 
 module _ {C : Type 0} where
   -- The line of a read has at most three numbers besides the task.
@@ -88,11 +76,11 @@ module _ {C : Type 0} where
 
   -- Seven times the line suffices for what it asks for.
   asks_room : (made : ℕ → ℕ → C) (c : Command) → asked_room (asks made c) ≤ 7 * length (spelled c)
-  asks_room made (Make area slots tasks pairs last cells) = omega arith
+  asks_room made (Make area m) = omega arith
   asks_room made (Begin task) = omega (arith, line_ge 98 task [], decimal-length_ge task)
   asks_room made (Read task address) = omega (arith, line_ge 114 task (address ∷ []), decimal-length_ge task)
-  asks_room made (Write task address value) = omega (arith, line_ge 119 task (address ∷ value ∷ []), decimal-length_ge task)
-  asks_room made (WriteTag task address value quality) = omega (arith, line_ge 119 task (address ∷ value ∷ quality ∷ []), decimal-length_ge task)
+  asks_room made (Write task address value None) = omega (arith, line_ge 119 task (address ∷ value ∷ []), decimal-length_ge task)
+  asks_room made (Write task address value (Some quality)) = omega (arith, line_ge 119 task (address ∷ value ∷ quality ∷ []), decimal-length_ge task)
   asks_room made (Commit task) = omega (arith, line_ge 99 task [], decimal-length_ge task)
   asks_room made (Work task) = omega (arith, line_ge 107 task [], decimal-length_ge task)
   asks_room made (Quit task) = omega (arith, line_ge 113 task [], decimal-length_ge task)

@@ -1,11 +1,10 @@
 -- What the lines of a text print, whatever output they are printed into.
-use Rattle.std.proofs.Common.{◌≡◌, ℕ, ◌+◌, ◌*◌, ◌/◌, ◌<◌, ◌≤◌, Bool, true, false, List, [], ◌++◌, length, take, drop, sym, refl, ap, ◌∙◌, subst, append_assoc, append-nil, arith, length-append}
+use Rattle.std.proofs.Common.{◌≡◌, ℕ, ◌+◌, ◌*◌, ◌/◌, ◌<◌, ◌≤◌, Bool, true, false, List, [], ◌++◌, length, take, drop, Some, sym, refl, ap, ◌∙◌, subst, append_assoc, append-nil, arith, length-append}
 use Rattle.std.proofs.lemmas.List.{length-take-le, take_at, take-append-drop}
 use Rattle.std.proofs.lemmas.Slice.{drop-append-drop}
 use Rattle.filters.specs.declared.filter.Filter.{Ghosts}
 use Rattle.lines.specs.declared.command.Area.{Area}
 use Rattle.lines.specs.declared.command.Command.{Command}
-use Rattle.lines.specs.declared.command.Expected.TheVariants.{After}
 use Rattle.lines.specs.declared.report.Report.{Report}
 use Rattle.lines.specs.declared.report.Report.TheVariants.{Broken}
 use Rattle.lines.specs.Grammar.{spelled, Allowed}
@@ -14,7 +13,7 @@ use Rattle.rules.specs.State.{State}
 use Rattle.runner.specs.Law.{output}
 use Rattle.runner.specs.Lines.{Played}
 use Rattle.runner.specs.Runs.{NoLine, Output, from, fits, misses, Plays, ends, breaks, stops, goes}
-use Rattle.runner.proofs.Going.{put_length}
+use Rattle.runner.proofs.Outputs.{put_length}
 
 -- What the answer has besides the bytes written: 10 where the run is cut short.
 abbrev pub stop : Bool → ℕ
@@ -83,9 +82,9 @@ module _ {F C : Type 0} (Φ : Ghosts F) (made : ℕ → ℕ → C) (shown : ℕ 
   -- What the lines behind the first print, from this state and this line number on, and whether the run is cut short.
   pub data Says : State F C → ℕ → List ℕ → List ℕ → Bool → Type 0 where
     silent : {s : State F C} {line : ℕ} {text : List ℕ} → text ≡ [] → Says s line text [] false
-    breaks_off : {s : State F C} {line : ℕ} {text : List ℕ} → 0 < length text → NoLine (After area) text → Says s line text (printed (Broken line)) false
+    breaks_off : {s : State F C} {line : ℕ} {text : List ℕ} → 0 < length text → NoLine (Some area) text → Says s line text (printed (Broken line)) false
     cut_off : {s : State F C} {line : ℕ} {text : List ℕ} → Says s line text [] true
-    says : {s s' : State F C} {line : ℕ} {text lines : List ℕ} {cut : Bool} (c : Command) (rest : List ℕ) (report : Report) → Allowed (After area) c → text ≡ spelled c ++ rest → Played Φ made shown s c report s' → Says s' (line + 1) rest lines cut → Says s line text (printed report ++ lines) cut
+    says : {s s' : State F C} {line : ℕ} {text lines : List ℕ} {cut : Bool} (c : Command) (rest : List ℕ) (report : Report) → Allowed (Some area) c → text ≡ spelled c ++ rest → Played Φ made shown s c report s' → Says s' (line + 1) rest lines cut → Says s line text (printed report ++ lines) cut
 
   -- What a run says, and that its output holds just that.
   pub record Spoken (s : State F C) (line : ℕ) (text : List ℕ) (o : Output) (after : List ℕ) (answer : ℕ) : Type 0 where

@@ -4,16 +4,16 @@ use Rattle.cells.specs.declared.refusal.Refusal.{Refusal}
 use Rattle.filters.specs.declared.filter.Filter.{Ghosts}
 use Rattle.forced.specs.Play.{Exact}
 use Rattle.lines.specs.declared.command.Area.{Area}
+use Rattle.lines.specs.declared.command.Making.{Making}
 use Rattle.lines.specs.declared.report.Report.{Report}
-use Rattle.lines.specs.declared.report.Report.TheVariants.{Made}
+use Rattle.lines.specs.declared.report.Report.TheVariants.{Made, Refused}
 use Rattle.lines.specs.Printed.{printed}
 use Rattle.rules.specs.State.{State}
 use Rattle.runner.specs.Law.{Unmade}
-use Rattle.runner.specs.Lines.{refusal}
-use Rattle.runner.specs.Runs.{from, Closes, fits, misses, Asked, handed, lacks, prints, Over, refused, accepted, Starts}
+use Rattle.runner.specs.Runs.{from, Closes, fits, misses, handed, lacks, prints, Over, refused, accepted, Starts}
 use Rattle.runner.specs.Texts.{line_count, WholeLines}
 use Rattle.runner.proofs.Agreement.{AgreedLines, over, first_cut, second_cut, line_before, agree}
-use Rattle.runner.proofs.Going.{put_length}
+use Rattle.runner.proofs.Outputs.{put_length}
 use Rattle.runner.proofs.LineCounts.{count-printed}
 use Rattle.runner.proofs.Makings.{MadeOf, refused_or_made, unmade_once, made_once}
 use Rattle.runner.proofs.Says.{Prints, nothing, prints_more, prints_last, Says, spoken}
@@ -30,10 +30,10 @@ pub closing : (Said : List ℕ → Bool → Type 0) (report : Report) (bytes aft
 closing Said report bytes after answer all none (fits end put e) = record { lines = printed report; cut = false; said = all; prints = prints_last (printed report) bytes after 0 end answer put e }
 closing Said report bytes after answer all none (misses full e) = record { lines = []; cut = true; said = none; prints = nothing bytes 0 after answer true (omega arith) full.same e }
 
-module _ {F C : Type 0} (Φ : Ghosts F) (made : ℕ → ℕ → C) (shown : ℕ → C → ℕ → Report) (area : Area) (w : Asked) where
+module _ {F C : Type 0} (Φ : Ghosts F) (made : ℕ → ℕ → C) (shown : ℕ → C → ℕ → Report) (area : Area) (w : Making) where
   -- What the run behind a first line prints.
   pub data StartSays (rest : List ℕ) : List ℕ → Bool → Type 0 where
-    unmade_says : (q : Refusal) → Unmade Φ made w q → StartSays rest (printed (refusal q)) false
+    unmade_says : (q : Refusal) → Unmade Φ made w q → StartSays rest (printed (Refused q)) false
     start_cut : StartSays rest [] true
     made_says : {lines : List ℕ} {cut : Bool} (s : State F C) → MadeOf Φ made w s → Says Φ made shown area s 2 rest lines cut → StartSays rest (printed (Made area) ++ lines) cut
 
@@ -42,7 +42,7 @@ module _ {F C : Type 0} (Φ : Ghosts F) (made : ℕ → ℕ → C) (shown : ℕ 
   start_heard rest bytes after answer st = go st.over
     where
       go : Over Φ made shown area (handed made w st.ring st.table) rest (from bytes 0) after answer → Heard (StartSays rest) bytes after answer
-      go (refused q u closes) = closing (StartSays rest) (refusal q) bytes after answer (unmade_says q (record { ring = st.ring; table = st.table; ring_length = st.ring_length; table_length = st.table_length; refused = u })) start_cut closes
+      go (refused q u closes) = closing (StartSays rest) (Refused q) bytes after answer (unmade_says q (record { ring = st.ring; table = st.table; ring_length = st.ring_length; table_length = st.table_length; refused = u })) start_cut closes
       go (accepted s m (lacks full e)) = record { lines = []; cut = true; said = start_cut; prints = nothing bytes 0 after answer true (omega arith) full.same e }
       go (accepted s m (prints middle end put plays)) =
           let later = spoken Φ made shown area {o = from middle end} (omega (arith, put.within, put_length put)) plays in
@@ -57,7 +57,7 @@ module _ {F C : Type 0} (Φ : Ghosts F) (made : ℕ → ℕ → C) (shown : ℕ 
   pub start_agree : (exact : Exact Φ) {rest rest' p q : List ℕ} {a b : Bool} → StartSays rest p a → StartSays rest' q b → (left behind behind' : List ℕ) → WholeLines left → rest ≡ left ++ behind → rest' ≡ left ++ behind' → AgreedLines (suc (line_count left)) p q a b
   start_agree exact {q = q} start_cut two left behind behind' whole e e' = first_cut q refl refl
   start_agree exact {p = p} (unmade_says q u) start_cut left behind behind' whole e e' = second_cut p refl refl
-  start_agree exact (unmade_says q u) (unmade_says q' u') left behind behind' whole e e' = over (ap (λ (r : Refusal). printed (refusal r)) (unmade_once Φ exact made w q q' u u'))
+  start_agree exact (unmade_says q u) (unmade_says q' u') left behind behind' whole e e' = over (ap (λ (r : Refusal). printed (Refused r)) (unmade_once Φ exact made w q q' u u'))
   start_agree exact (unmade_says q u) (made_says s m more) left behind behind' whole e e' = absurd (refused_or_made Φ exact made w q s u m)
   start_agree exact {p = p} (made_says s m more) start_cut left behind behind' whole e e' = second_cut p refl refl
   start_agree exact (made_says s m more) (unmade_says q u) left behind behind' whole e e' = absurd (refused_or_made Φ exact made w q s u m)

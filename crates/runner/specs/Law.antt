@@ -1,20 +1,19 @@
 -- What a run prints, in terms of the lines of its text: the law above the definition of a run.
-use Rattle.std.specs.Prelude.{◌≡◌, ℕ, ◌+◌, ◌/◌, ◌%◌, ◌<◌, ◌≤◌, List, ◌++◌, length, take}
+use Rattle.std.specs.Prelude.{◌≡◌, ℕ, ◌+◌, ◌/◌, ◌%◌, ◌<◌, ◌≤◌, List, ◌++◌, length, take, None, Option}
 use Rattle.cells.specs.declared.refusal.Refusal.{Refusal}
 use Rattle.filters.specs.declared.filter.Filter.{Ghosts}
+use Rattle.lines.specs.declared.command.Area.{Area}
 use Rattle.lines.specs.declared.command.Area.TheVariants.{Words, Tags}
 use Rattle.lines.specs.declared.command.Command.{Command}
-use Rattle.lines.specs.declared.command.Command.TheVariants.{Make, Begin, Read, Write, WriteTag, Commit, Work, Quit}
-use Rattle.lines.specs.declared.command.Expected.{Expected}
-use Rattle.lines.specs.declared.command.Expected.TheVariants.{First}
-use Rattle.lines.specs.declared.report.Report.TheVariants.{Broken}
+use Rattle.lines.specs.declared.command.Command.TheVariants.{Make}
+use Rattle.lines.specs.declared.command.Making.{Making}
+use Rattle.lines.specs.declared.report.Report.TheVariants.{Refused, Broken}
 use Rattle.lines.specs.Grammar.{spelled, Allowed}
 use Rattle.lines.specs.Printed.{printed}
 use Rattle.rules.specs.declared.ring.Entry.{Entry}
 use Rattle.rules.specs.declared.table.TaskRecord.{TaskRecord}
 use Rattle.rules.specs.Making.{MakingRefused}
-use Rattle.runner.specs.Lines.{refusal}
-use Rattle.runner.specs.Runs.{NoLine, Asked, wanted, handed, word_made, tag_made, Runs}
+use Rattle.runner.specs.Runs.{NoLine, handed, word_made, tag_made, Runs}
 use Rattle.runner.specs.Texts.{line_count, WholeLines, Schedule}
 
 -- What stands in the output when a run is over: its whole lines.
@@ -23,7 +22,7 @@ output after answer = take (answer / 16) after
 
 module _ {F C : Type 0} (Φ : Ghosts F) (made : ℕ → ℕ → C) where
   -- A making with these numbers, over arrays of the right lengths and cells at 0, is refused.
-  pub record Unmade (w : Asked) (q : Refusal) : Type 0 where
+  pub record Unmade (w : Making) (q : Refusal) : Type 0 where
     pub ring : List (Entry F)
     pub table : List (TaskRecord F)
     pub ring_length : length ring ≡ w.slots
@@ -33,26 +32,20 @@ module _ {F C : Type 0} (Φ : Ghosts F) (made : ℕ → ℕ → C) where
 module _ {F : Type 0} (Φ : Ghosts F) where
   -- The making that a first line asks for is refused.
   abbrev pub FirstRefused : Command → Refusal → Type 0
-  FirstRefused (Make Words slots tasks pairs last cells) q = Unmade Φ word_made (wanted slots tasks pairs last cells) q
-  FirstRefused (Make Tags slots tasks pairs last cells) q = Unmade Φ tag_made (wanted slots tasks pairs last cells) q
-  FirstRefused (Begin task) q = ⊥
-  FirstRefused (Read task address) q = ⊥
-  FirstRefused (Write task address value) q = ⊥
-  FirstRefused (WriteTag task address value quality) q = ⊥
-  FirstRefused (Commit task) q = ⊥
-  FirstRefused (Work task) q = ⊥
-  FirstRefused (Quit task) q = ⊥
+  FirstRefused (Make Words m) q = Unmade Φ word_made m q
+  FirstRefused (Make Tags m) q = Unmade Φ tag_made m q
+  FirstRefused _ q = ⊥
 
   -- How a run comes out that is not cut short by the end of its output.
   pub data Outcome (text lines : List ℕ) : Type 0 where
     -- A text of more than 8,192 bytes prints that line 0 is broken, and nothing more.
     long : 8192 < length text → lines ≡ printed (Broken 0) → Outcome text lines
     -- A refused making ends the run: its line is the only one.
-    unmade : length text ≤ 8192 → (c : Command) (rest : List ℕ) (q : Refusal) → text ≡ spelled c ++ rest → Allowed First c → FirstRefused c q → lines ≡ printed (refusal q) → Outcome text lines
+    unmade : length text ≤ 8192 → (c : Command) (rest : List ℕ) (q : Refusal) → text ≡ spelled c ++ rest → Allowed None c → FirstRefused c q → lines ≡ printed (Refused q) → Outcome text lines
     -- A text of the grammar gives exactly one line for each of its lines.
-    each : length text ≤ 8192 → (next : Expected) → Schedule text next → line_count lines ≡ line_count text → Outcome text lines
+    each : length text ≤ 8192 → (next : Option Area) → Schedule text next → line_count lines ≡ line_count text → Outcome text lines
     -- Any other text gives one line for each line before its first broken one, then that line's number, and nothing more.
-    broken : length text ≤ 8192 → (good bad front : List ℕ) (next : Expected) → text ≡ good ++ bad → Schedule good next → 0 < length bad → NoLine next bad → lines ≡ front ++ printed (Broken (line_count good + 1)) → line_count front ≡ line_count good → Outcome text lines
+    broken : length text ≤ 8192 → (good bad front : List ℕ) (next : Option Area) → text ≡ good ++ bad → Schedule good next → 0 < length bad → NoLine next bad → lines ≡ front ++ printed (Broken (line_count good + 1)) → line_count front ≡ line_count good → Outcome text lines
 
 -- What two runs print agrees over the first n lines; a and b are their answers.
 pub data Agreed (n : ℕ) (p q : List ℕ) (a b : ℕ) : Type 0 where

@@ -1,5 +1,7 @@
 pub mod Lines
 pub mod Runs
-pub mod Turns
+pub mod Sessions
 pub mod Texts
+pub mod Inputs
+pub mod Outputs
 pub mod Law

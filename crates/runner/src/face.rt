@@ -1,15 +1,15 @@
 // How the runner makes a cell from the numbers of a line, and shows one.
-ghost use Rattle.std.specs.Prelude.{◌≡◌, ℕ, ◌+◌, ◌≤◌, length};
+ghost use Rattle.std.specs.Prelude.{◌≡◌, ℕ, ◌+◌, ◌≤◌, length, Some, None};
 ghost use Rattle.lines.specs.Decimal.{decimal};
 ghost use Rattle.lines.specs.Printed.{room};
-ghost use Rattle.cells.specs.declared.tags.Tag.{Tag as TagCell};
 ghost use Rattle.lines.specs.declared.report.Report.{Report as Line};
-ghost use Rattle.lines.specs.declared.report.Report.TheVariants.{ReadWord, ReadTag};
+ghost use Rattle.lines.specs.declared.report.Report.TheVariants.{Read};
 ghost use Rattle.std.proofs.Common.{rules};
 
 use cells::tags::Tag;
 use lines::report::Report;
 
+// No `Display` of the cell: a report says besides which task reads and how many filters were asked.
 pub trait Face: Copy {
     // The cell with this value and quality.
     ghost made: { ℕ → ℕ → Self };
@@ -31,7 +31,7 @@ pub trait Face: Copy {
 impl Face for u32 {
     ghost made = { λ value quality. value };
 
-    ghost shown = { λ task cell compared. ReadWord task cell compared };
+    ghost shown = { λ task cell compared. Read task cell None compared };
 
     ghost room_bound = { Prim.search rules };
 
@@ -40,9 +40,10 @@ impl Face for u32 {
     }
 
     fn show(self, task: u32, compared: u32) -> Report {
-        Report::ReadWord {
+        Report::Read {
             task,
             value: self,
+            quality: None,
             compared,
         }
     }
@@ -51,7 +52,7 @@ impl Face for u32 {
 impl Face for Tag {
     ghost made = { λ value quality. record { quality = quality; value = value } };
 
-    ghost shown = { λ task cell compared. ReadTag task cell.value cell.quality compared };
+    ghost shown = { λ task cell compared. Read task cell.value (Some cell.quality) compared };
 
     ghost room_bound = { Prim.search rules };
 
@@ -60,10 +61,10 @@ impl Face for Tag {
     }
 
     fn show(self, task: u32, compared: u32) -> Report {
-        Report::ReadTag {
+        Report::Read {
             task,
             value: self.value,
-            quality: self.quality,
+            quality: Some(self.quality),
             compared,
         }
     }

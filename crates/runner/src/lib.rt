@@ -2,6 +2,7 @@
 #![tactic(auto)]
 
 pub mod face;
+mod input;
 mod play;
 pub mod run;
 mod turn;

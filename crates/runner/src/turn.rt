@@ -1,53 +1,30 @@
 // One line of the schedule: the call that it asks for, and the line printed of the answer.
 ghost use Rattle.std.specs.Prelude.{◌≡◌};
-ghost use Rattle.engine.specs.View.{view, SameLoans};
 ghost use Rattle.lines.specs.Grammar.{MayFollow};
-ghost use Rattle.runner.specs.Lines.{refusal, denial, done, Played};
+ghost use Rattle.runner.specs.Lines.{denial, done, Played};
+ghost use Rattle.runner.specs.Sessions.{state};
 
 use crate::face::Face;
 use cells::memory::Memory;
-use cells::refusal::Refusal;
 use engine::arrays::Arrays;
 use engine::engine::Engine;
 use filters::filter::Filter;
 use lines::command::{Area, Command};
 use lines::report::Report;
-use rules::answer::{Denial, Worked};
-
-// A refusal prints its number, and the place waited for where it names one.
-pub(crate) fn refused(reason: Refusal) -> Report
-    ensures { result ≡ refusal reason }
-{
-    match reason {
-        Refusal::MustWait { place } => Report::Waiting {
-            number: reason.code(),
-            place,
-        },
-        _ => Report::Refused {
-            number: reason.code(),
-        },
-    }
-}
+use rules::answer::{Abort, Denial, Worked};
 
 fn denied(task: u32, reason: Denial) -> Report
     ensures { result ≡ denial task reason }
 {
     match reason {
-        Denial::Refused(reason) => refused(reason),
-        Denial::Conflict { place, compared } => Report::Conflict {
+        Denial::Refused(reason) => Report::Refused(reason),
+        Denial::Aborted(Abort::Conflict { place, compared }) => Report::Conflict {
             task,
             place,
             compared,
         },
-        Denial::Overrun { compared } => Report::Overrun { task, compared },
+        Denial::Aborted(Abort::Overrun { compared }) => Report::Overrun { task, compared },
     }
-}
-
-fn answered<C: Face>(task: u32, answer: (C, u32)) -> Report
-    ensures { result ≡ C.shown task answer.0 answer.1 }
-{
-    let (cell, compared) = answer;
-    cell.show(task, compared)
 }
 
 fn worked(task: u32, progress: Worked) -> Report
@@ -59,60 +36,63 @@ fn worked(task: u32, progress: Worked) -> Report
     }
 }
 
-// Makes the call that the line asks for.
-pub(crate) fn turn<C: Face, M: Memory<Cell = C>, F: Filter>(
-    engine: &mut Engine,
-    memory: &mut M,
-    arrays: &mut Arrays<'_, '_, '_, '_, F, C>,
-    area: Area,
-    command: Command,
-) -> Report
-    requires { MayFollow area command }
-    ensures played { Played F.Filter C.Face.made C.Face.shown (view engine.old (M.contents memory.old) arrays.old) command result (view engine.new (M.contents memory.new) arrays.new) }
-    ensures loans { SameLoans arrays.old arrays.new }
-{
-    match command {
-        Command::Make { .. } => unreachable(),
-        Command::Begin { task } => match engine.begin(memory, arrays, task) {
-            Ok(start) => Report::Began { task, start },
-            Err(reason) => refused(reason),
-        },
-        Command::Read { task, address } => match engine.read(memory, arrays, task, address) {
-            Ok(answer) => answered(task, answer),
-            Err(reason) => denied(task, reason),
-        },
-        Command::Write {
-            task,
-            address,
-            value,
-        } => match engine.write(memory, arrays, task, address, C::make(value, 0)) {
-            Ok(logged) => Report::Wrote { task, logged },
-            Err(reason) => refused(reason),
-        },
-        Command::WriteTag {
-            task,
-            address,
-            value,
-            quality,
-        } => match engine.write(memory, arrays, task, address, C::make(value, quality)) {
-            Ok(logged) => Report::Wrote { task, logged },
-            Err(reason) => refused(reason),
-        },
-        Command::Commit { task } => match engine.commit(memory, arrays, task) {
-            Ok((place, compared)) => Report::Committed {
-                task,
-                place,
-                compared,
+// An engine that is made, over its memory and its arrays, and what its cells hold.
+#[derive(Drop)]
+pub(crate) struct Session<'r, 't, 'a, 'c, M, F, C> {
+    pub(crate) engine: Engine,
+    pub(crate) memory: M,
+    pub(crate) arrays: Arrays<'r, 't, 'a, 'c, F, C>,
+    pub(crate) area: Area,
+}
+
+impl<C: Face, M: Memory<Cell = C>, F: Filter> Session<'_, '_, '_, '_, M, F, C> {
+    // Makes the call that the line asks for.
+    pub(crate) fn turn(&mut self, command: Command) -> Report
+        requires { MayFollow self.old.area command }
+        ensures played { Played F.Filter C.Face.made C.Face.shown (state M.contents self.old) command result (state M.contents self.new) }
+        ensures area { self.new.area ≡ self.old.area }
+    {
+        let engine = &mut self.engine;
+        let memory = &mut self.memory;
+        let arrays = &mut self.arrays;
+        match command {
+            Command::Make { .. } => unreachable(),
+            Command::Begin { task } => match engine.begin(memory, arrays, task) {
+                Ok(start) => Report::Began { task, start },
+                Err(reason) => Report::Refused(reason),
             },
-            Err(reason) => denied(task, reason),
-        },
-        Command::Work { task } => match engine.work(memory, arrays, task) {
-            Ok(progress) => worked(task, progress),
-            Err(reason) => refused(reason),
-        },
-        Command::Quit { task } => match engine.quit(memory, arrays, task) {
-            Ok(logged) => Report::Quit { task, logged },
-            Err(reason) => refused(reason),
-        },
+            Command::Read { task, address } => match engine.read(memory, arrays, task, address) {
+                Ok(answer) => answer.0.show(task, answer.1),
+                Err(reason) => denied(task, reason),
+            },
+            Command::Write {
+                task,
+                address,
+                value,
+                quality,
+            } => {
+                let cell = C::make(value, quality.unwrap_or(0));
+                match engine.write(memory, arrays, task, address, cell) {
+                    Ok(logged) => Report::Wrote { task, logged },
+                    Err(reason) => Report::Refused(reason),
+                }
+            }
+            Command::Commit { task } => match engine.commit(memory, arrays, task) {
+                Ok((place, compared)) => Report::Committed {
+                    task,
+                    place,
+                    compared,
+                },
+                Err(reason) => denied(task, reason),
+            },
+            Command::Work { task } => match engine.work(memory, arrays, task) {
+                Ok(progress) => worked(task, progress),
+                Err(reason) => Report::Refused(reason),
+            },
+            Command::Quit { task } => match engine.quit(memory, arrays, task) {
+                Ok(logged) => Report::Quit { task, logged },
+                Err(reason) => Report::Refused(reason),
+            },
+        }
     }
 }

@@ -8,15 +8,13 @@ use Rattle.filters.specs.contracts.small.SmallFilter.TheImpl.{ghosts}
 use Rattle.filters.specs.declared.small.Small.{Small}
 use Rattle.rules.specs.declared.answer.Denial.{Denial}
 use Rattle.rules.specs.declared.answer.Worked.{Worked}
-use Rattle.rules.specs.declared.verdict.Verdict.{Verdict}
-use Rattle.rules.specs.declared.verdict.Verdict.TheVariants.{Passed, Conflict, Overrun}
 use Rattle.rules.specs.declared.ring.Entry.{Entry}
 use Rattle.rules.specs.declared.table.CallKind.TheVariants.{Read, Commit}
 use Rattle.rules.specs.declared.table.Phase.{Phase}
 use Rattle.rules.specs.declared.table.Phase.TheVariants.{Idle, Open}
 use Rattle.rules.specs.declared.table.TaskRecord.{TaskRecord}
 use Rattle.rules.specs.Calls.{Act, begin, read, write, commit, work, quit, by, kind}
-use Rattle.rules.specs.Check.{Checks}
+use Rattle.rules.specs.Check.{Verdict, Checks}
 use Rattle.rules.specs.Records.{Blank, after_read}
 use Rattle.rules.specs.State.{State, Fits, base, with_record}
 use Rattle.rules.specs.Steps.{Empties, ReadChecks, CommitChecks, ActStep, Step}
@@ -88,16 +86,15 @@ module _ (s : State Small ℕ) (t : ℕ) where
       checks v c = record { accepts = accepts s t (read a) r is; task = r; there = record_is s t (read a) r is; new = (decides_lacks s.addresses (base s t) a r.logged).0 (ap noneb found); reads = add_bit r.reads a; widened = refl; checks = c }
 
       by_verdict : (v : Verdict) → Checks ghosts s.slots s.ring (add_bit r.reads a) s.index r.start v → ActStep ghosts s t (read a) (read_checked ghosts small_exact s t r a (add_bit r.reads a) v).0 (read_checked ghosts small_exact s t r a (add_bit r.reads a) v).1
-      by_verdict (Passed start compared) c = go (slice_get s.memory a) refl
+      by_verdict (Ok passed) c = go (slice_get s.memory a) refl
         where
           inside : a < length s.memory
           inside = ⊎_elim (λ less. omega (arith, (fits (read a) r is).memory)) (λ more. absurd (accepts s t (read a) r is Address (λ less. omega arith))) (cases_lt a s.size)
 
-          go : (m : Option ℕ) → slice_get s.memory a ≡ m → ActStep ghosts s t (read a) (read_memory s (with_record s t (after_read r start (add_bit r.reads a))) compared m).0 (read_memory s (with_record s t (after_read r start (add_bit r.reads a))) compared m).1
+          go : (m : Option ℕ) → slice_get s.memory a ≡ m → ActStep ghosts s t (read a) (read_memory s (with_record s t (after_read r passed.start (add_bit r.reads a))) passed.compared m).0 (read_memory s (with_record s t (after_read r passed.start (add_bit r.reads a))) passed.compared m).1
           go None none = found_within s.memory a inside none
-          go (Some m) here = inr (record { start = start; checked = checks (Passed start compared) c; cell = nth_at s.memory a m here; after = refl })
-      by_verdict (Conflict place compared) c = (checks (Conflict place compared) c, empties)
-      by_verdict (Overrun compared) c = (checks (Overrun compared) c, empties)
+          go (Some m) here = inr (record { start = passed.start; checked = checks (Ok passed) c; cell = nth_at s.memory a m here; after = refl })
+      by_verdict (Err abort) c = (checks (Err abort) c, empties)
 
   -- A write is taken: it replaces or appends.
   takes_write : (a c : ℕ) (r : TaskRecord Small) → judge ghosts s t (write a c) ≡ Ok r → (o : Option ℕ) → find s.addresses (base s t) a r.logged ≡ o → ActStep ghosts s t (write a c) (writing ghosts small_exact s t r a c o).0 (writing ghosts small_exact s t r a c o).1
@@ -116,9 +113,8 @@ module _ (s : State Small ℕ) (t : ℕ) where
       checks v c = record { accepts = accepts s t commit r is; task = r; there = record_is s t commit r is; some = ltb-true 0 r.logged some; checks = c }
 
       by_verdict : (v : Verdict) → Checks ghosts s.slots s.ring r.reads s.index r.start v → ActStep ghosts s t commit (committing ghosts small_exact s t r v).0 (committing ghosts small_exact s t r v).1
-      by_verdict (Passed start compared) c = record { start = start; checked = checks (Passed start compared) c; next = refl; after = refl }
-      by_verdict (Conflict place compared) c = (checks (Conflict place compared) c, empties)
-      by_verdict (Overrun compared) c = (checks (Overrun compared) c, empties)
+      by_verdict (Ok passed) c = record { start = passed.start; checked = checks (Ok passed) c; next = refl; after = refl }
+      by_verdict (Err abort) c = (checks (Err abort) c, empties)
 
   -- A work is taken: it writes back or it finishes.
   abbrev worked : TaskRecord Small → Bool → Result Worked Refusal × State Small ℕ

@@ -1,8 +1,8 @@
 -- Begin's walk, the search of a log and the check's walk, as they are played, are what the rules say.
-use Rattle.std.proofs.Common.{◌≡◌, ℕ, zero, suc, ◌+◌, ◌-◌, ◌≤◌, Bool, true, false, cond, eqb, ltb, List, get_or, Some, None, Option, sym, refl, ap, ◌∙◌, subst, inl, inr, ⊎_elim, arith}
+use Rattle.std.proofs.Common.{◌≡◌, ℕ, zero, suc, ◌+◌, ◌-◌, ◌≤◌, Bool, true, false, cond, eqb, ltb, List, get_or, Some, None, Ok, Err, Option, sym, refl, ap, ◌∙◌, subst, inl, inr, ⊎_elim, arith}
 use Rattle.std.proofs.lemmas.Bool.{both_ways, cases_eq, eqb-true, ltb-true, ltb-false}
 use Rattle.filters.specs.declared.filter.Filter.{Ghosts}
-use Rattle.rules.specs.declared.verdict.Verdict.TheVariants.{Conflict, Overrun}
+use Rattle.rules.specs.declared.answer.Abort.TheVariants.{Conflict, Overrun}
 use Rattle.rules.specs.declared.ring.Entry.{Entry}
 use Rattle.rules.specs.declared.ring.Status.{Status}
 use Rattle.rules.specs.declared.ring.Status.TheVariants.{Writing, Complete}
@@ -73,7 +73,7 @@ module _ {F : Type 0} (Φ : Ghosts F) (slots : ℕ) (ring : List (Entry F)) (rea
           here : Present slots ring (start + suc n) e
           here = entry_present (start + suc n) e is
 
-          test : (b : Bool) → Φ.meeting e.filter reads ≡ b → Checks Φ slots ring reads index start (cond b (Conflict (start + suc n) (compared + 1)) (check_down Φ slots ring reads start n (cond (writingb e.status) (start + suc n - 1) new) (compared + 1)))
+          test : (b : Bool) → Φ.meeting e.filter reads ≡ b → Checks Φ slots ring reads index start (cond b (Err (Conflict (start + suc n) (compared + 1))) (check_down Φ slots ring reads start n (cond (writingb e.status) (start + suc n - 1) new) (compared + 1)))
           test true meets = record { near = near; low = omega arith; high = within; asked = asked; met = record { entry = e; present = here; meets = meets }; counted = omega arith }
           test false apart = rest (cond (writingb e.status) (start + suc n - 1) new) (compared + 1)
               (λ i above below. ⊎_elim (λ same. record { entry = e; present = subst (λ (p : ℕ). Present slots ring p e) (sym same) here; apart = apart }) (λ other. asked i (omega arith) below) (cases_eq i (start + suc n)))
@@ -86,6 +86,6 @@ module _ {F : Type 0} (Φ : Ghosts F) (slots : ℕ) (ring : List (Entry F)) (rea
   unfolding verdict
   verdict_checks = go (ltb slots (index - start)) refl
     where
-      go : (b : Bool) → ltb slots (index - start) ≡ b → Checks Φ slots ring reads index start (cond b (Overrun 0) (check_down Φ slots ring reads start (index - start) index 0))
+      go : (b : Bool) → ltb slots (index - start) ≡ b → Checks Φ slots ring reads index start (cond b (Err (Overrun 0)) (check_down Φ slots ring reads start (index - start) index 0))
       go true is = inl (record { far = ltb-true slots (index - start) is; counted = refl })
       go false is = walked Φ slots ring reads index start (ltb-false slots (index - start) is) (index - start) index 0 (omega arith) (λ i above low. absurd (omega arith)) (record { low = omega arith; high = omega arith; finished = λ i above low. absurd (omega arith); next = inl refl }) (omega arith)

@@ -3,7 +3,8 @@
 use Rattle.std.specs.Prelude.{◌≡◌, ℕ, ◌<◌, List, [], ◌∷◌, ◌++◌, None, Ok, Err}
 use Rattle.cells.specs.declared.refusal.Refusal.TheVariants.{RingLength, PlacesSpent, RingFull, MustWait}
 use Rattle.cells.specs.Refusals.{number}
-use Rattle.rules.specs.declared.answer.Denial.TheVariants.{Conflict, Overrun}
+use Rattle.rules.specs.declared.answer.Abort.TheVariants.{Conflict, Overrun}
+use Rattle.rules.specs.declared.answer.Denial.TheVariants.{Aborted}
 use Rattle.rules.specs.Calls.{read, commit}
 use Rattle.worked.specs.Makings.{Refuses, Makeable}
 use Rattle.worked.specs.Runs.{Event, asks, holds, stamps, ForcedRun, begins, reads, logs, places, commits, refuses, writes_back, finishes, waits}
@@ -65,11 +66,11 @@ within_reach_events u v w x = four_finished u v w x ++ reads 1 9 0 4
 
 -- After five it does not.
 abbrev pub out_of_reach_events : (u v w x y : ℕ) → List Event
-out_of_reach_events u v w x y = four_finished u v w x ++ finished_commit y 4 5 ++ asks 1 (read 9) (Err (Overrun 0)) ∷ []
+out_of_reach_events u v w x y = four_finished u v w x ++ finished_commit y 4 5 ++ asks 1 (read 9) (Err (Aborted (Overrun 0))) ∷ []
 
 -- Task 0 reads cell 0, task 1 commits cell 32, and task 0 reads cell 1.
 abbrev pub shared_bit_events : (u : ℕ) → List Event
-shared_bit_events u = begins 0 0 ++ reads 0 0 0 0 ++ begins 1 0 ++ commits 1 32 u 1 0 ++ asks 0 (read 1) (Err (Conflict 1 1)) ∷ []
+shared_bit_events u = begins 0 0 ++ reads 0 0 0 0 ++ begins 1 0 ++ commits 1 32 u 1 0 ++ asks 0 (read 1) (Err (Aborted (Conflict 1 1))) ∷ []
 
 -- The numbers that the refusals of these runs go by.
 pub record Numbers : Type 0 where

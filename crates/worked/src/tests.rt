@@ -1,7 +1,5 @@
 // The tests: each plays some of the runs.
-use crate::player::{
-    CELLS, LOGS, SLOTS, TASKS, USUAL, play, play_large, play_short_list, play_small,
-};
+use crate::player::{CELLS, LOGS, MANY_CELLS, SLOTS, TASKS, USUAL, play};
 use crate::runs::{
     BITS_APART, EXACT, FULL_RING, LARGE_SHARED_BIT, LAST_PLACE, OUT_OF_REACH, OVERFLOW, REFUSALS,
     RING_OF_TWO, SHARED_BIT, TAKEN_OVER, WITHIN_REACH,
@@ -13,8 +11,10 @@ use cells::words::Words;
 use engine::arrays::Arrays;
 use engine::engine::{Engine, Settings};
 use filters::filter::Filter;
+use filters::large::Large;
+use filters::short_list::ShortList;
 use filters::small::Small;
-use rules::answer::{Denial, Worked};
+use rules::answer::{Abort, Denial, Worked};
 use rules::ring::Entry;
 use rules::table::TaskRecord;
 use std::test::Fail;
@@ -32,72 +32,52 @@ const TAG: Tag = Tag {
     value: 0x0102_0304,
 };
 
-const CONFLICT: Denial = Denial::Conflict {
+const CONFLICT: Denial = Denial::Aborted(Abort::Conflict {
     place: 1,
     compared: 1,
-};
+});
 
-const ONE_PLACE: Settings = Settings {
-    slots: 4,
-    tasks: 4,
-    pairs: 2,
-    last: 1,
-};
+const ONE_PLACE: Settings = Settings { last: 1, ..USUAL };
 
-const TWO_SLOTS: Settings = Settings {
-    slots: 2,
-    tasks: 4,
-    pairs: 2,
-    last: 100,
-};
+const TWO_SLOTS: Settings = Settings { slots: 2, ..USUAL };
 
 #[test]
 fn over_the_small_filter(rt: HostRuntime) -> Result<(), Fail> {
-    play_small(&rt, ONE_PLACE, &LAST_PLACE)?;
-    play_small(&rt, USUAL, &FULL_RING)?;
-    play_small(&rt, USUAL, &TAKEN_OVER)?;
-    play_small(&rt, USUAL, &WITHIN_REACH)?;
-    play_small(&rt, USUAL, &OUT_OF_REACH)?;
-    play_small(&rt, USUAL, &SHARED_BIT)?;
-    play_small(&rt, USUAL, &REFUSALS)
+    play::<Small>(&rt, CELLS, ONE_PLACE, &LAST_PLACE)?;
+    play::<Small>(&rt, CELLS, USUAL, &FULL_RING)?;
+    play::<Small>(&rt, CELLS, USUAL, &TAKEN_OVER)?;
+    play::<Small>(&rt, CELLS, USUAL, &WITHIN_REACH)?;
+    play::<Small>(&rt, CELLS, USUAL, &OUT_OF_REACH)?;
+    play::<Small>(&rt, CELLS, USUAL, &SHARED_BIT)?;
+    play::<Small>(&rt, CELLS, USUAL, &REFUSALS)
 }
 
 #[test]
 fn over_the_large_filter(rt: HostRuntime) -> Result<(), Fail> {
-    play_large(&rt, ONE_PLACE, &LAST_PLACE)?;
-    play_large(&rt, USUAL, &FULL_RING)?;
-    play_large(&rt, USUAL, &TAKEN_OVER)?;
-    play_large(&rt, USUAL, &WITHIN_REACH)?;
-    play_large(&rt, USUAL, &OUT_OF_REACH)?;
-    play_large(&rt, USUAL, &BITS_APART)?;
-    play_large(&rt, USUAL, &LARGE_SHARED_BIT)
+    play::<Large>(&rt, MANY_CELLS, ONE_PLACE, &LAST_PLACE)?;
+    play::<Large>(&rt, MANY_CELLS, USUAL, &FULL_RING)?;
+    play::<Large>(&rt, MANY_CELLS, USUAL, &TAKEN_OVER)?;
+    play::<Large>(&rt, MANY_CELLS, USUAL, &WITHIN_REACH)?;
+    play::<Large>(&rt, MANY_CELLS, USUAL, &OUT_OF_REACH)?;
+    play::<Large>(&rt, MANY_CELLS, USUAL, &BITS_APART)?;
+    play::<Large>(&rt, MANY_CELLS, USUAL, &LARGE_SHARED_BIT)
 }
 
 #[test]
 fn over_the_short_list(rt: HostRuntime) -> Result<(), Fail> {
-    play_short_list(&rt, ONE_PLACE, &LAST_PLACE)?;
-    play_short_list(&rt, USUAL, &FULL_RING)?;
-    play_short_list(&rt, USUAL, &TAKEN_OVER)?;
-    play_short_list(&rt, USUAL, &WITHIN_REACH)?;
-    play_short_list(&rt, USUAL, &OUT_OF_REACH)?;
-    play_short_list(&rt, USUAL, &BITS_APART)?;
-    play_short_list(&rt, USUAL, &EXACT)?;
-    play_short_list(&rt, USUAL, &OVERFLOW)
+    play::<ShortList>(&rt, MANY_CELLS, ONE_PLACE, &LAST_PLACE)?;
+    play::<ShortList>(&rt, MANY_CELLS, USUAL, &FULL_RING)?;
+    play::<ShortList>(&rt, MANY_CELLS, USUAL, &TAKEN_OVER)?;
+    play::<ShortList>(&rt, MANY_CELLS, USUAL, &WITHIN_REACH)?;
+    play::<ShortList>(&rt, MANY_CELLS, USUAL, &OUT_OF_REACH)?;
+    play::<ShortList>(&rt, MANY_CELLS, USUAL, &BITS_APART)?;
+    play::<ShortList>(&rt, MANY_CELLS, USUAL, &EXACT)?;
+    play::<ShortList>(&rt, MANY_CELLS, USUAL, &OVERFLOW)
 }
 
 #[test]
 fn a_ring_of_two(rt: HostRuntime) -> Result<(), Fail> {
-    let mut ring = [Entry::<Small>::vacant(); 2];
-    let mut table = [TaskRecord::<Small>::emptied(); TASKS];
-    let mut words = [0; CELLS];
-    play(
-        &rt,
-        &mut ring,
-        &mut table,
-        &mut words,
-        TWO_SLOTS,
-        &RING_OF_TWO,
-    )
+    play::<Small>(&rt, CELLS, TWO_SLOTS, &RING_OF_TWO)
 }
 
 // What a making answers that is handed a ring of this length and is asked for so many slots.
@@ -114,16 +94,9 @@ fn making(length: usize, slots: u32) -> Result<(), Refusal> {
         addresses: &mut addresses,
         cells: &mut cells,
     };
-    let settings = Settings {
-        slots,
-        tasks: 4,
-        pairs: 2,
-        last: 100,
-    };
-    match Engine::make(settings, &memory, &mut arrays) {
-        Ok(_) => Ok(()),
-        Err(refusal) => Err(refusal),
-    }
+    let settings = Settings { slots, ..USUAL };
+    Engine::make(settings, &memory, &mut arrays)?;
+    Ok(())
 }
 
 #[test]

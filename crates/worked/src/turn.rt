@@ -1,6 +1,6 @@
 // One turn of a run: a task, its act, and the answer that it must get.
 use cells::refusal::Refusal;
-use rules::answer::{Denial, Worked};
+use rules::answer::{Abort, Denial, Worked};
 
 #[derive(Clone, Copy)]
 pub struct Turn(pub u32, pub Act, pub Answer);
@@ -21,6 +21,7 @@ pub enum Act {
     Look(u32),
 }
 
+// Flat, and no Result: a row of a table names its answer in one word, which `Ok` and `Err` around it do not make plainer.
 #[derive(Clone, Copy, PartialEq, Eq, Debug)]
 pub enum Answer {
     // The start.
@@ -62,9 +63,11 @@ impl From<Refusal> for Answer {
 impl From<Denial> for Answer {
     fn from(denial: Denial) -> Answer {
         match denial {
-            Denial::Refused(refusal) => Answer::Refused(refusal),
-            Denial::Conflict { place, compared } => Answer::Conflict(place, compared),
-            Denial::Overrun { compared } => Answer::Overrun(compared),
+            Denial::Refused(refusal) => refusal.into(),
+            Denial::Aborted(Abort::Conflict { place, compared }) => {
+                Answer::Conflict(place, compared)
+            }
+            Denial::Aborted(Abort::Overrun { compared }) => Answer::Overrun(compared),
         }
     }
 }

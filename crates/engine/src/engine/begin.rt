@@ -5,9 +5,8 @@ ghost use Rattle.rules.specs.Steps.{Step};
 ghost use Rattle.engine.specs.View.{state, view, SameLoans};
 
 use super::Engine;
-use super::admit::admit;
 use crate::arrays::Arrays;
-use crate::lists::put;
+use crate::handed::Handed;
 use cells::memory::Memory;
 use cells::refusal::Refusal;
 use filters::filter::Filter;
@@ -37,6 +36,7 @@ impl Engine {
     }
 }
 
+// The call over the arrays one by one (`Arrays` says why).
 fn begin_task<M: Memory, F: Filter>(
     engine: &Engine,
     memory: &M,
@@ -48,18 +48,16 @@ fn begin_task<M: Memory, F: Filter>(
 ) -> Result<u32, Refusal>
     ensures { Step F.Filter (state engine.now (M.contents memory.now) ring.old table.old addresses.old cells.old) (by task begin) result (state engine.now (M.contents memory.now) ring.new table.new addresses.new cells.new) }
 {
-    admit(
+    Handed {
         engine,
         memory,
         ring,
         table,
         addresses,
         cells,
-        task,
-        CallKind::Begin,
-        None,
-    )?;
+    }
+    .admit(task, CallKind::Begin, None)?;
     let start = settled(ring, engine.index);
-    put(table, task as usize, TaskRecord::opened(start));
+    table[task as usize] = TaskRecord::opened(start);
     Ok(start)
 }

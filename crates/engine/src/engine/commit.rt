@@ -8,10 +8,9 @@ ghost use Rattle.rules.specs.Steps.{Step};
 ghost use Rattle.engine.specs.View.{state, view, SameLoans};
 
 use super::Engine;
-use super::admit::admit;
 use crate::arrays::Arrays;
 use crate::entries::enter;
-use crate::lists::put;
+use crate::handed::Handed;
 use crate::records::empty;
 use cells::memory::Memory;
 use cells::refusal::Refusal;
@@ -19,7 +18,7 @@ use filters::filter::Filter;
 use rules::answer::Denial;
 use rules::ring::Entry;
 use rules::table::{CallKind, Phase, TaskRecord};
-use rules::verdict::Verdict;
+use rules::verdict::Passed;
 use walks::check::check;
 use walks::ring::unfinished;
 
@@ -45,6 +44,7 @@ impl Engine {
     }
 }
 
+// The call over the arrays one by one (`Arrays` says why).
 fn commit_task<M: Memory, F: Filter>(
     engine: &mut Engine,
     memory: &M,
@@ -56,64 +56,54 @@ fn commit_task<M: Memory, F: Filter>(
 ) -> Result<(Option<u32>, u32), Denial>
     ensures { Step F.Filter (state engine.old (M.contents memory.now) ring.old table.old addresses.old cells.old) (by task commit) result (state engine.new (M.contents memory.now) ring.new table.new addresses.new cells.new) }
 {
-    let record = admit(
+    let record = Handed {
         engine,
         memory,
         ring,
         table,
         addresses,
         cells,
-        task,
-        CallKind::Commit,
-        None,
-    )?;
+    }
+    .admit(task, CallKind::Commit, None)?;
     if record.logged == 0 {
         empty(table, task);
         return Ok((None, 0));
     }
     let place = next_place(engine, ring)?;
     match check(ring, &record.reads, engine.index, record.start) {
-        Verdict::Passed { start, compared } => {
+        Ok(Passed { start, compared }) => {
             engine.index = place;
             enter(ring, place, record.writes);
-            put(
-                table,
-                task as usize,
-                TaskRecord {
-                    phase: Phase::Committed,
-                    start,
-                    place,
-                    ..record
-                },
-            );
+            table[task as usize] = TaskRecord {
+                phase: Phase::Committed,
+                start,
+                place,
+                ..record
+            };
             Ok((Some(place), compared))
         }
-        Verdict::Conflict { place, compared } => {
+        Err(abort) => {
             empty(table, task);
-            Err(Denial::Conflict { place, compared })
-        }
-        Verdict::Overrun { compared } => {
-            empty(table, task);
-            Err(Denial::Overrun { compared })
+            Err(Denial::Aborted(abort))
         }
     }
 }
 
 // Whether the place that the next writer but one would take over is unfinished.
 fn is_full<F: Filter>(engine: &Engine, ring: &[Entry<F>]) -> bool
-    requires { length ring.now ≡ engine.now.slots }
-    ensures { MatchBool result (Pending engine.now.slots ring.now (engine.now.index + 2 - engine.now.slots)) (Pending engine.now.slots ring.now (engine.now.index + 2 - engine.now.slots) → ⊥) }
+    requires { length ring.now ≡ engine.now.settings.slots }
+    ensures { MatchBool result (Pending engine.now.settings.slots ring.now (engine.now.index + 2 - engine.now.settings.slots)) (Pending engine.now.settings.slots ring.now (engine.now.index + 2 - engine.now.settings.slots) → ⊥) }
 {
-    let oldest = engine.index.saturating_sub(engine.slots - 2);
+    let oldest = engine.index.saturating_sub(engine.settings.slots - 2);
     unfinished(ring, oldest)
 }
 
 // The place after the index, unless the last place is reached or the ring is full.
 fn next_place<F: Filter>(engine: &Engine, ring: &[Entry<F>]) -> Result<u32, Refusal>
-    requires { length ring.now ≡ engine.now.slots }
-    ensures { NextPlace engine.now.slots engine.now.last engine.now.index ring.now result }
+    requires { length ring.now ≡ engine.now.settings.slots }
+    ensures { NextPlace engine.now.settings.slots engine.now.settings.last engine.now.index ring.now result }
 {
-    if engine.index == engine.last {
+    if engine.index == engine.settings.last {
         return Err(Refusal::PlacesSpent);
     }
     if is_full(engine, ring) {

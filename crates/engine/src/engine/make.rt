@@ -1,10 +1,10 @@
 // Making: an engine over a memory and arrays that are handed over.
-ghost use Rattle.rules.specs.Making.{Examined};
-ghost use Rattle.engine.specs.Limits.{Limits};
+ghost use Rattle.engine.specs.Limits.{Made};
 ghost use Rattle.engine.specs.View.{asked, request, state, view, Begun, MakeStep, SameLoans};
 
 use super::{Engine, Settings};
 use crate::arrays::Arrays;
+use crate::handed::Handed;
 use crate::lists::fill;
 use cells::memory::Memory;
 use cells::refusal::Refusal;
@@ -43,6 +43,7 @@ impl Engine {
     }
 }
 
+// The call over the arrays one by one (`Arrays` says why).
 fn make_engine<M: Memory, F: Filter>(
     settings: Settings,
     memory: &M,
@@ -53,37 +54,34 @@ fn make_engine<M: Memory, F: Filter>(
 ) -> Result<Engine, Refusal>
     ensures { MakeStep F.Filter (asked settings (M.contents memory.now) ring.old table.old addresses.old cells.old) result (λ e. state e (M.contents memory.now) ring.new table.new addresses.new cells.new) (asked settings (M.contents memory.now) ring.new table.new addresses.new cells.new) }
 {
-    examine(settings, memory, ring, table, addresses, cells)?;
+    let engine = limited(settings, memory.size())?;
+    let handed = Handed {
+        engine: &engine,
+        memory,
+        ring,
+        table,
+        addresses,
+        cells,
+    };
+    if !handed.fits() {
+        return Err(Refusal::ArrayLength);
+    }
     fill(ring, Entry::vacant());
     fill(table, TaskRecord::emptied());
-    let Settings {
-        slots,
-        tasks,
-        pairs,
-        last,
-    } = settings;
-    let size = memory.size() as u32;
-    Ok(Engine {
-        slots,
-        tasks,
-        pairs,
-        last,
-        size,
-        index: 0,
-    })
+    Ok(engine)
 }
 
-// The refusals of the numbers, in their order.
-fn limits(settings: Settings, size: usize) -> Result<(), Refusal>
-    ensures { Limits settings size result }
+// An engine with no writer yet, if the numbers lie within their limits; else the refusal of the first that does not.
+fn limited(settings: Settings, size: usize) -> Result<Engine, Refusal>
+    ensures { Made settings size result }
 {
-    if settings.slots < LEAST_SLOTS || settings.slots > MOST_SLOTS {
+    if !(LEAST_SLOTS..=MOST_SLOTS).contains(&settings.slots) {
         return Err(Refusal::RingLength);
     }
-    if settings.tasks == 0 || settings.tasks > MOST_TASKS {
+    if !(1..=MOST_TASKS).contains(&settings.tasks) {
         return Err(Refusal::TaskCount);
     }
-    if settings.pairs == 0 || settings.pairs > MOST_PAIRS {
+    if !(1..=MOST_PAIRS).contains(&settings.pairs) {
         return Err(Refusal::LogLength);
     }
     if settings.last == 0 {
@@ -92,28 +90,9 @@ fn limits(settings: Settings, size: usize) -> Result<(), Refusal>
     if size > MOST_CELLS {
         return Err(Refusal::MemorySize);
     }
-    Ok(())
-}
-
-// All refusals of a making: the numbers, then the lengths of the arrays.
-fn examine<M: Memory, F: Filter>(
-    settings: Settings,
-    memory: &M,
-    ring: &[Entry<F>],
-    table: &[TaskRecord<F>],
-    addresses: &[u32],
-    cells: &[M::Cell],
-) -> Result<(), Refusal>
-    ensures { Examined (asked settings (M.contents memory.now) ring.now table.now addresses.now cells.now) result }
-{
-    limits(settings, memory.size())?;
-    let logs = settings.tasks as usize * settings.pairs as usize;
-    if ring.len() != settings.slots as usize
-        || table.len() != settings.tasks as usize
-        || addresses.len() != logs
-        || cells.len() != logs
-    {
-        return Err(Refusal::ArrayLength);
-    }
-    Ok(())
+    Ok(Engine {
+        settings,
+        size: size as u32,
+        index: 0,
+    })
 }

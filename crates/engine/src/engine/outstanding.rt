@@ -2,12 +2,11 @@
 ghost use Rattle.rules.specs.Calls.{outstanding};
 ghost use Rattle.rules.specs.Promise.{Kept};
 ghost use Rattle.rules.specs.Steps.{Step};
-ghost use Rattle.engine.specs.View.{state, view, SameLoans};
+ghost use Rattle.engine.specs.View.{seen, state, view, SameLoans};
 
 use super::Engine;
-use super::admit::{fits, whole};
 use crate::arrays::Arrays;
-use crate::lists::item;
+use crate::handed::Handed;
 use cells::memory::Memory;
 use cells::refusal::Refusal;
 use filters::filter::Filter;
@@ -35,6 +34,7 @@ impl Engine {
     }
 }
 
+// The call over the arrays one by one (`Arrays` says why).
 fn count_owed<M: Memory, F: Filter>(
     engine: &Engine,
     memory: &M,
@@ -45,19 +45,34 @@ fn count_owed<M: Memory, F: Filter>(
 ) -> Result<u32, Refusal>
     ensures { Step F.Filter (state engine.now (M.contents memory.now) ring.old table.old addresses.old cells.old) outstanding result (state engine.now (M.contents memory.now) ring.new table.new addresses.new cells.new) }
 {
-    if !fits(engine, memory, ring, table, addresses, cells) {
-        return Err(Refusal::ArrayLength);
+    Handed {
+        engine,
+        memory,
+        ring,
+        table,
+        addresses,
+        cells,
     }
-    let mut owed = 0;
-    for task in 0..engine.tasks {
-        let record = item(table, task as usize);
-        if !whole(engine, ring, addresses, task, &record) {
-            return Err(Refusal::Torn);
+    .owed()
+}
+
+impl<M: Memory<Cell = C>, F: Filter, C: Copy> Handed<'_, M, F, C> {
+    fn owed(&self) -> Result<u32, Refusal>
+        ensures { Step F.Filter (seen M.contents self.now) outstanding result (seen M.contents self.now) }
+    {
+        if !self.fits() {
+            return Err(Refusal::ArrayLength);
         }
-        match record.phase {
-            Phase::Committed => owed += record.logged - record.written + 1,
-            Phase::Idle | Phase::Open => {}
+        let mut owed = 0;
+        for (task, record) in self.table.iter().enumerate() {
+            if !self.whole(task as u32, record) {
+                return Err(Refusal::Torn);
+            }
+            match record.phase {
+                Phase::Committed => owed += record.logged - record.written + 1,
+                Phase::Idle | Phase::Open => {}
+            }
         }
+        Ok(owed)
     }
-    Ok(owed)
 }

@@ -5,8 +5,8 @@ ghost use Rattle.rules.specs.Steps.{Step};
 ghost use Rattle.engine.specs.View.{state, view, SameLoans};
 
 use super::Engine;
-use super::admit::admit;
 use crate::arrays::Arrays;
+use crate::handed::Handed;
 use crate::records::empty;
 use cells::memory::Memory;
 use cells::refusal::Refusal;
@@ -36,6 +36,7 @@ impl Engine {
     }
 }
 
+// The call over the arrays one by one (`Arrays` says why).
 fn quit_task<M: Memory, F: Filter>(
     engine: &Engine,
     memory: &M,
@@ -47,17 +48,15 @@ fn quit_task<M: Memory, F: Filter>(
 ) -> Result<u32, Refusal>
     ensures { Step F.Filter (state engine.now (M.contents memory.now) ring.old table.old addresses.old cells.old) (by task quit) result (state engine.now (M.contents memory.now) ring.new table.new addresses.new cells.new) }
 {
-    let record = admit(
+    let record = Handed {
         engine,
         memory,
         ring,
         table,
         addresses,
         cells,
-        task,
-        CallKind::Quit,
-        None,
-    )?;
+    }
+    .admit(task, CallKind::Quit, None)?;
     empty(table, task);
     Ok(record.logged)
 }

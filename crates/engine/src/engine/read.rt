@@ -5,17 +5,15 @@ ghost use Rattle.rules.specs.Steps.{Step};
 ghost use Rattle.engine.specs.View.{state, view, SameLoans};
 
 use super::Engine;
-use super::admit::admit;
 use crate::arrays::Arrays;
-use crate::lists::put;
-use crate::log::lookup;
+use crate::handed::Handed;
 use crate::records::empty;
 use cells::memory::Memory;
 use filters::filter::Filter;
 use rules::answer::Denial;
 use rules::ring::Entry;
 use rules::table::{CallKind, TaskRecord};
-use rules::verdict::Verdict;
+use rules::verdict::Passed;
 use walks::check::check;
 
 impl Engine {
@@ -41,6 +39,7 @@ impl Engine {
     }
 }
 
+// The call over the arrays one by one (`Arrays` says why).
 fn read_task<M: Memory, F: Filter>(
     engine: &Engine,
     memory: &M,
@@ -53,42 +52,32 @@ fn read_task<M: Memory, F: Filter>(
 ) -> Result<(M::Cell, u32), Denial>
     ensures { Step F.Filter (state engine.now (M.contents memory.now) ring.old table.old addresses.old cells.old) (by task (read address)) result (state engine.now (M.contents memory.now) ring.new table.new addresses.new cells.new) }
 {
-    let record = admit(
+    let handed = Handed {
         engine,
         memory,
         ring,
         table,
         addresses,
         cells,
-        task,
-        CallKind::Read,
-        Some(address),
-    )?;
-    if let Some((_, cell)) = lookup(addresses, cells, task, engine.pairs, record.logged, address) {
+    };
+    let record = handed.admit(task, CallKind::Read, Some(address))?;
+    if let Some((_, cell)) = handed.lookup(task, record.logged, address) {
         return Ok((cell, 0));
     }
     let reads = record.reads.add(address);
     match check(ring, &reads, engine.index, record.start) {
-        Verdict::Passed { start, compared } => {
+        Ok(Passed { start, compared }) => {
             let cell = memory.read(address as usize)?;
-            put(
-                table,
-                task as usize,
-                TaskRecord {
-                    start,
-                    reads,
-                    ..record
-                },
-            );
+            table[task as usize] = TaskRecord {
+                start,
+                reads,
+                ..record
+            };
             Ok((cell, compared))
         }
-        Verdict::Conflict { place, compared } => {
+        Err(abort) => {
             empty(table, task);
-            Err(Denial::Conflict { place, compared })
-        }
-        Verdict::Overrun { compared } => {
-            empty(table, task);
-            Err(Denial::Overrun { compared })
+            Err(Denial::Aborted(abort))
         }
     }
 }

@@ -7,10 +7,9 @@ ghost use Rattle.engine.specs.View.{state, view, SameLoans};
 ghost use Rattle.std.specs.Prelude.{◌≡◌};
 
 use super::Engine;
-use super::admit::{admit, log_base};
 use crate::arrays::Arrays;
 use crate::entries::complete;
-use crate::lists::{item, put};
+use crate::handed::Handed;
 use crate::records::empty;
 use cells::memory::Memory;
 use cells::refusal::Refusal;
@@ -44,6 +43,7 @@ impl Engine {
     }
 }
 
+// The call over the arrays one by one (`Arrays` says why).
 fn work_task<M: Memory, F: Filter>(
     engine: &Engine,
     memory: &mut M,
@@ -57,17 +57,15 @@ fn work_task<M: Memory, F: Filter>(
     ensures rest { M.rest memory.new ≡ M.rest memory.old }
     ensures lender { M.lender memory.new ≡ M.lender memory.old }
 {
-    let record = admit(
+    let record = Handed {
         engine,
         memory,
         ring,
         table,
         addresses,
         cells,
-        task,
-        CallKind::Work,
-        None,
-    )?;
+    }
+    .admit(task, CallKind::Work, None)?;
     if let Some(place) = awaited(ring, &record) {
         return Err(Refusal::MustWait { place });
     }
@@ -78,12 +76,11 @@ fn work_task<M: Memory, F: Filter>(
             place: record.place,
         });
     }
-    let next = log_base(engine, task) + record.written as usize;
-    let address = item(addresses, next);
-    let cell = item(cells, next);
-    write_back(memory, address, cell)?;
+    let next = engine.log_base(task) + record.written as usize;
+    let cell = cells[next];
+    write_back(memory, addresses[next], cell)?;
     let written = record.written + 1;
-    put(table, task as usize, TaskRecord { written, ..record });
+    table[task as usize] = TaskRecord { written, ..record };
     Ok(Worked::Left(record.logged - written))
 }
 

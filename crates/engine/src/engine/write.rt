@@ -5,10 +5,8 @@ ghost use Rattle.rules.specs.Steps.{Step};
 ghost use Rattle.engine.specs.View.{state, view, SameLoans};
 
 use super::Engine;
-use super::admit::{admit, log_base};
 use crate::arrays::Arrays;
-use crate::lists::put;
-use crate::log::lookup;
+use crate::handed::Handed;
 use cells::memory::Memory;
 use cells::refusal::Refusal;
 use filters::filter::Filter;
@@ -41,6 +39,7 @@ impl Engine {
     }
 }
 
+// The call over the arrays one by one (`Arrays` says why).
 fn write_task<M: Memory, F: Filter>(
     engine: &Engine,
     memory: &M,
@@ -54,45 +53,32 @@ fn write_task<M: Memory, F: Filter>(
 ) -> Result<u32, Refusal>
     ensures { Step F.Filter (state engine.now (M.contents memory.now) ring.old table.old addresses.old cells.old) (by task (write address cell)) result (state engine.now (M.contents memory.now) ring.new table.new addresses.new cells.new) }
 {
-    let record = admit(
+    let handed = Handed {
         engine,
         memory,
         ring,
         table,
         addresses,
         cells,
-        task,
-        CallKind::Write,
-        Some(address),
-    )?;
-    let base = log_base(engine, task);
-    if let Some((position, _)) = lookup(
-        addresses,
-        cells,
-        task,
-        engine.pairs,
-        record.logged,
-        address,
-    ) {
-        put(cells, base + position, cell);
+    };
+    let record = handed.admit(task, CallKind::Write, Some(address))?;
+    let base = engine.log_base(task);
+    if let Some((position, _)) = handed.lookup(task, record.logged, address) {
+        cells[base + position] = cell;
         return Ok(record.logged);
     }
-    if record.logged == engine.pairs {
+    if record.logged == engine.settings.pairs {
         return Err(Refusal::LogFull);
     }
     let end = base + record.logged as usize;
-    put(addresses, end, address);
-    put(cells, end, cell);
+    addresses[end] = address;
+    cells[end] = cell;
     let logged = record.logged + 1;
     let writes = record.writes.add(address);
-    put(
-        table,
-        task as usize,
-        TaskRecord {
-            logged,
-            writes,
-            ..record
-        },
-    );
+    table[task as usize] = TaskRecord {
+        logged,
+        writes,
+        ..record
+    };
     Ok(logged)
 }

@@ -26,9 +26,7 @@ impl OpenTransaction {
         ensures handed { BeginHands task result }
         ensures loans { SameLoans arrays.old arrays.new }
     {
-        match engine.begin(memory, arrays, task) {
-            Ok(start) => Ok((OpenTransaction { task }, start)),
-            Err(refusal) => Err(refusal),
-        }
+        let start = engine.begin(memory, arrays, task)?;
+        Ok((OpenTransaction { task }, start))
     }
 }

@@ -7,12 +7,11 @@ ghost use Rattle.held.specs.Handed.{CommitHands};
 ghost use Rattle.held.specs.Replies.{commit_reply};
 
 use super::{CommittedTransaction, OpenTransaction};
-use crate::answer::{Abort, Committing};
+use crate::answer::{Committing, Denied};
 use cells::memory::Memory;
 use engine::arrays::Arrays;
 use engine::engine::Engine;
 use filters::filter::Filter;
-use rules::answer::Denial;
 
 impl OpenTransaction {
     // Gives back a committed transaction with its place, or the open one with its refusal, or neither where the transaction has ended.
@@ -21,7 +20,7 @@ impl OpenTransaction {
         engine: &mut Engine,
         memory: &M,
         arrays: &mut Arrays<'_, '_, '_, '_, F, M::Cell>,
-    ) -> Committing
+    ) -> Result<Committing, Denied>
         ensures step { Step F.Filter (view engine.old (M.contents memory.now) arrays.old) (by self.task commit) (commit_reply result) (view engine.new (M.contents memory.now) arrays.new) }
         ensures promise { Kept F.Filter (view engine.old (M.contents memory.now) arrays.old) (by self.task commit) (commit_reply result) (view engine.new (M.contents memory.now) arrays.new) }
         ensures handed { CommitHands self.task result }
@@ -29,20 +28,13 @@ impl OpenTransaction {
     {
         let OpenTransaction { task } = self;
         match engine.commit(memory, arrays, task) {
-            Ok((Some(place), compared)) => Committing::Committed {
+            Ok((Some(place), compared)) => Ok(Committing::Committed {
                 transaction: CommittedTransaction { task },
                 place,
                 compared,
-            },
-            Ok((None, compared)) => Committing::NothingLogged { compared },
-            Err(Denial::Refused(refusal)) => Committing::Refused {
-                transaction: OpenTransaction { task },
-                refusal,
-            },
-            Err(Denial::Conflict { place, compared }) => {
-                Committing::Aborted(Abort::Conflict { place, compared })
-            }
-            Err(Denial::Overrun { compared }) => Committing::Aborted(Abort::Overrun { compared }),
+            }),
+            Ok((None, compared)) => Ok(Committing::NothingLogged { compared }),
+            Err(denial) => Err(OpenTransaction::denied(task, denial)),
         }
     }
 }

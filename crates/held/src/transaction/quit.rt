@@ -7,7 +7,7 @@ ghost use Rattle.held.specs.Handed.{QuitHands};
 ghost use Rattle.held.specs.Replies.{quit_reply};
 
 use super::OpenTransaction;
-use crate::answer::Quitting;
+use crate::answer::Refused;
 use cells::memory::Memory;
 use engine::arrays::Arrays;
 use engine::engine::Engine;
@@ -20,19 +20,18 @@ impl OpenTransaction {
         engine: &Engine,
         memory: &M,
         arrays: &mut Arrays<'_, '_, '_, '_, F, M::Cell>,
-    ) -> Quitting
+    ) -> Result<u32, Refused<OpenTransaction>>
         ensures step { Step F.Filter (view engine.now (M.contents memory.now) arrays.old) (by self.task quit) (quit_reply result) (view engine.now (M.contents memory.now) arrays.new) }
         ensures promise { Kept F.Filter (view engine.now (M.contents memory.now) arrays.old) (by self.task quit) (quit_reply result) (view engine.now (M.contents memory.now) arrays.new) }
         ensures handed { QuitHands self.task result }
         ensures loans { SameLoans arrays.old arrays.new }
     {
         let OpenTransaction { task } = self;
-        match engine.quit(memory, arrays, task) {
-            Ok(logged) => Quitting::Quit { logged },
-            Err(refusal) => Quitting::Refused {
+        engine
+            .quit(memory, arrays, task)
+            .map_err(|refusal| Refused {
                 transaction: OpenTransaction { task },
                 refusal,
-            },
-        }
+            })
     }
 }

@@ -7,12 +7,11 @@ ghost use Rattle.held.specs.Handed.{ReadHands};
 ghost use Rattle.held.specs.Replies.{read_reply};
 
 use super::OpenTransaction;
-use crate::answer::{Abort, Reading};
+use crate::answer::{Denied, Reading};
 use cells::memory::Memory;
 use engine::arrays::Arrays;
 use engine::engine::Engine;
 use filters::filter::Filter;
-use rules::answer::Denial;
 
 impl OpenTransaction {
     // Gives the open transaction back with the cell and the number of filters compared, or with its refusal. A conflict or an overrun has ended it.
@@ -22,27 +21,20 @@ impl OpenTransaction {
         memory: &M,
         arrays: &mut Arrays<'_, '_, '_, '_, F, M::Cell>,
         address: u32,
-    ) -> Reading<M::Cell>
+    ) -> Result<Reading<M::Cell>, Denied>
         ensures step { Step F.Filter (view engine.now (M.contents memory.now) arrays.old) (by self.task (read address)) (read_reply result) (view engine.now (M.contents memory.now) arrays.new) }
         ensures promise { Kept F.Filter (view engine.now (M.contents memory.now) arrays.old) (by self.task (read address)) (read_reply result) (view engine.now (M.contents memory.now) arrays.new) }
         ensures handed { ReadHands self.task result }
         ensures loans { SameLoans arrays.old arrays.new }
     {
         let OpenTransaction { task } = self;
-        match engine.read(memory, arrays, task, address) {
-            Ok((cell, compared)) => Reading::Read {
-                transaction: OpenTransaction { task },
-                cell,
-                compared,
-            },
-            Err(Denial::Refused(refusal)) => Reading::Refused {
-                transaction: OpenTransaction { task },
-                refusal,
-            },
-            Err(Denial::Conflict { place, compared }) => {
-                Reading::Aborted(Abort::Conflict { place, compared })
-            }
-            Err(Denial::Overrun { compared }) => Reading::Aborted(Abort::Overrun { compared }),
-        }
+        let (cell, compared) = engine
+            .read(memory, arrays, task, address)
+            .map_err(|denial| OpenTransaction::denied(task, denial))?;
+        Ok(Reading {
+            transaction: OpenTransaction { task },
+            cell,
+            compared,
+        })
     }
 }

@@ -8,7 +8,7 @@ ghost use Rattle.held.specs.Handed.{WorkHands};
 ghost use Rattle.held.specs.Replies.{work_reply};
 
 use super::CommittedTransaction;
-use crate::answer::Working;
+use crate::answer::{Refused, Working};
 use cells::memory::Memory;
 use engine::arrays::Arrays;
 use engine::engine::Engine;
@@ -22,7 +22,7 @@ impl CommittedTransaction {
         engine: &Engine,
         memory: &mut M,
         arrays: &mut Arrays<'_, '_, '_, '_, F, M::Cell>,
-    ) -> Working
+    ) -> Result<Working, Refused<CommittedTransaction>>
         ensures step { Step F.Filter (view engine.now (M.contents memory.old) arrays.old) (by self.task work) (work_reply result) (view engine.now (M.contents memory.new) arrays.new) }
         ensures promise { Kept F.Filter (view engine.now (M.contents memory.old) arrays.old) (by self.task work) (work_reply result) (view engine.now (M.contents memory.new) arrays.new) }
         ensures handed { WorkHands self.task result }
@@ -32,15 +32,15 @@ impl CommittedTransaction {
     {
         let CommittedTransaction { task } = self;
         match engine.work(memory, arrays, task) {
-            Ok(Worked::Left(cells)) => Working::Left {
+            Ok(Worked::Left(cells)) => Ok(Working::Left {
                 transaction: CommittedTransaction { task },
                 cells,
-            },
-            Ok(Worked::Done { place }) => Working::Done { place },
-            Err(refusal) => Working::Refused {
+            }),
+            Ok(Worked::Done { place }) => Ok(Working::Done { place }),
+            Err(refusal) => Err(Refused {
                 transaction: CommittedTransaction { task },
                 refusal,
-            },
+            }),
         }
     }
 }

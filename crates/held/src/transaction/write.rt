@@ -7,7 +7,7 @@ ghost use Rattle.held.specs.Handed.{WriteHands};
 ghost use Rattle.held.specs.Replies.{write_reply};
 
 use super::OpenTransaction;
-use crate::answer::Writing;
+use crate::answer::Refused;
 use cells::memory::Memory;
 use engine::arrays::Arrays;
 use engine::engine::Engine;
@@ -22,22 +22,19 @@ impl OpenTransaction {
         arrays: &mut Arrays<'_, '_, '_, '_, F, M::Cell>,
         address: u32,
         cell: M::Cell,
-    ) -> Writing
+    ) -> Result<(OpenTransaction, u32), Refused<OpenTransaction>>
         ensures step { Step F.Filter (view engine.now (M.contents memory.now) arrays.old) (by self.task (write address cell)) (write_reply result) (view engine.now (M.contents memory.now) arrays.new) }
         ensures promise { Kept F.Filter (view engine.now (M.contents memory.now) arrays.old) (by self.task (write address cell)) (write_reply result) (view engine.now (M.contents memory.now) arrays.new) }
         ensures handed { WriteHands self.task result }
         ensures loans { SameLoans arrays.old arrays.new }
     {
         let OpenTransaction { task } = self;
-        match engine.write(memory, arrays, task, address, cell) {
-            Ok(logged) => Writing::Logged {
-                transaction: OpenTransaction { task },
-                logged,
-            },
-            Err(refusal) => Writing::Refused {
+        let logged = engine
+            .write(memory, arrays, task, address, cell)
+            .map_err(|refusal| Refused {
                 transaction: OpenTransaction { task },
                 refusal,
-            },
-        }
+            })?;
+        Ok((OpenTransaction { task }, logged))
     }
 }

@@ -1,5 +1,5 @@
 -- A commit with cells logged: one more writer, which owes all its cells and one more.
-use Rattle.std.proofs.Common.{◌≡◌, ℕ, ◌+◌, ◌-◌, ◌%◌, List, length, set, Some, sym, refl, ap, ◌∙◌, subst, ⊎_elim, arith}
+use Rattle.std.proofs.Common.{◌≡◌, ℕ, ◌+◌, ◌-◌, ◌%◌, List, length, set, Some, Ok, sym, refl, ap, ◌∙◌, subst, ⊎_elim, arith}
 use Rattle.std.proofs.lemmas.List.{length-set}
 use Rattle.std.proofs.lemmas.Bool.{cases_eq}
 use Rattle.filters.specs.declared.filter.Filter.{Ghosts}
@@ -10,7 +10,6 @@ use Rattle.rules.specs.Book.{Page, Book, writing, place_of, owed, page_commit, e
 use Rattle.rules.specs.Records.{after_commit}
 use Rattle.rules.specs.State.{State, with_entry}
 use Rattle.rules.specs.Steps.{CommitChecks, Commits}
-use Rattle.rules.specs.declared.verdict.Verdict.TheVariants.{Passed}
 use Rattle.promise.proofs.Promised.Accepting.{commit_open, commit_room}
 use Rattle.promise.proofs.Promised.Invariant.{Inv, owes_open}
 use Rattle.promise.proofs.Promised.Laws.{Lawful}
@@ -24,7 +23,7 @@ use Rattle.promise.proofs.Promised.Running.{its}
 use Rattle.promise.proofs.Promised.Tasks.{CommittedFacts, open≢committed, tasks_turned, alone_turned, backed_turned}
 use Rattle.promise.proofs.Promised.Turns.{put, put_at, put_other, at_same, turned_set}
 
-module _ {F C : Type 0} (Φ : Ghosts F) (laws : Lawful Φ) {s : State F C} {b : Book C} (inv : Inv Φ s b) (t start compared : ℕ) (checked : CommitChecks Φ s t (Passed start compared)) where
+module _ {F C : Type 0} (Φ : Ghosts F) (laws : Lawful Φ) {s : State F C} {b : Book C} (inv : Inv Φ s b) (t start compared : ℕ) (checked : CommitChecks Φ s t (Ok (record { start = start; compared = compared }))) where
   -- The task's record and page before, and the place, the record and the page after.
   abbrev r : TaskRecord F
   r = checked.task

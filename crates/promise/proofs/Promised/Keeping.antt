@@ -3,7 +3,7 @@ use Rattle.std.proofs.Common.{ℕ, Some, None, Ok, Err, Option, sym, subst, inl,
 use Rattle.cells.specs.declared.refusal.Refusal.{Refusal}
 use Rattle.filters.specs.declared.filter.Filter.{Ghosts}
 use Rattle.rules.specs.declared.answer.Denial.{Denial}
-use Rattle.rules.specs.declared.answer.Denial.TheVariants.{Refused, Conflict, Overrun}
+use Rattle.rules.specs.declared.answer.Denial.TheVariants.{Refused, Aborted}
 use Rattle.rules.specs.declared.answer.Worked.{Worked}
 use Rattle.rules.specs.declared.answer.Worked.TheVariants.{Left, Done}
 use Rattle.rules.specs.Book.{Book, entered, entered_commit, with_pages, on_page, page_work}
@@ -32,14 +32,12 @@ module _ {F C : Type 0} (Φ : Ghosts F) (laws : Lawful Φ) where
     -- A read that is denied changes nothing or empties the record.
     read_denied : (t a : ℕ) (denial : Denial) → ReadDenied Φ s t a denial s' → Inv Φ s' b
     read_denied t a (Refused refusal) step = refused (by t (read a)) refusal step
-    read_denied t a (Conflict place compared) step = empties Φ inv t step.0.task step.0.there (read_open Φ s t step.0.task step.0.there a step.0.accepts) s' step.1
-    read_denied t a (Overrun compared) step = empties Φ inv t step.0.task step.0.there (read_open Φ s t step.0.task step.0.there a step.0.accepts) s' step.1
+    read_denied t a (Aborted abort) step = empties Φ inv t step.0.task step.0.there (read_open Φ s t step.0.task step.0.there a step.0.accepts) s' step.1
 
     -- So does a commit that is denied.
     commit_denied : (t : ℕ) (denial : Denial) → CommitDenied Φ s t denial s' → Inv Φ s' b
     commit_denied t (Refused refusal) step = refused (by t commit) refusal step
-    commit_denied t (Conflict place compared) step = empties Φ inv t step.0.task step.0.there (commit_open Φ s t step.0.task step.0.there step.0.accepts) s' step.1
-    commit_denied t (Overrun compared) step = empties Φ inv t step.0.task step.0.there (commit_open Φ s t step.0.task step.0.there step.0.accepts) s' step.1
+    commit_denied t (Aborted abort) step = empties Φ inv t step.0.task step.0.there (commit_open Φ s t step.0.task step.0.there step.0.accepts) s' step.1
 
     -- A commit that is taken empties the record or makes a writer.
     commit_taken : (t : ℕ) (place : Option ℕ) (compared : ℕ) → CommitTaken Φ s t place compared s' → Inv Φ s' (entered_commit b t place)

@@ -2,4 +2,4 @@
 use Rattle.bagger.proofs.holder.committed.Goals as goal
 
 pub returns : goal.returns
-returns g c = c.after_work.ensures c.args.transaction.task c.work.ensures.handed
+returns g c = c.into.ensures c.args.transaction.task c.in_ok-work.ensures.handed

@@ -4,7 +4,4 @@ use Rattle.walks.proofs.ring.settled.Given as goal
 
 -- Every place above is unfinished.
 abbrev pub invariant-loop-start : goal.invariant-loop-start
-invariant-loop-start g l = (l.start ≤ l.index) × ((i : ℕ) → l.start < i → i ≤ l.index → Pending (length l.ring) l.ring i)
-
-abbrev pub decreases-loop-start : goal.decreases-loop-start
-decreases-loop-start g l = l.start
+invariant-loop-start g l = (i : ℕ) → l.start < i → i ≤ l.index → Pending (length l.ring) l.ring i

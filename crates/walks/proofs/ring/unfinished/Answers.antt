@@ -1,13 +1,5 @@
-use Rattle.std.proofs.Common.{rules}
+use Rattle.rules.proofs.Walks.{decide_pending}
 use Rattle.walks.proofs.ring.unfinished.Goals as goal
 
-pub returns-in-Writing : goal.returns-in-Writing
-returns-in-Writing g c = record {
-  entry = c.index-ring-slot.result;
-  present = record {
-    counted = search rules;
-    there = record { within = search rules; is = c.index-ring-slot.is };
-    stamped = c.if-entry-place.false;
-  };
-  writing = c.in-Writing.is;
-}
+pub returns-in-Some : goal.returns-in-Some
+returns-in-Some g c = decide_pending c.in-Some.ensures c.is_writing.result c.is_writing.ensures

@@ -1,6 +1,6 @@
-use Rattle.std.proofs.Common.{◌≡◌, take, vec_items}
+use Rattle.std.proofs.Common.{◌≡◌}
 use Rattle.chain.specs.Pages.{laid}
 use Rattle.chain.proofs.book.Page.lay_over.Given as goal
 
-abbrev pub invariant-loop-pair : goal.invariant-loop-pair
-invariant-loop-pair l = l.cells ≡ laid (take l.pair-index (vec_items l.self.log)) l.initial.cells
+abbrev pub invariant-loop-address : goal.invariant-loop-address
+invariant-loop-address l = laid l.address-iterator l.cells ≡ laid l.self.log.entries l.initial.cells

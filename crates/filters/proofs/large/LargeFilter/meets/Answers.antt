@@ -1,24 +1,17 @@
--- A turn of the loop decides whether the two words at k share a bit.
-use Rattle.std.proofs.Common.{get_or, sym, arith}
-use Rattle.filters.specs.Words.{share_at}
-use Rattle.filters.specs.BitLaws.{and_shares, and_apart}
-use Rattle.filters.specs.SomeLaws.{some_none, some_found, some_more}
+-- The chain goes through the pairs of small filters, which are the pairs of their 32 words.
+use Rattle.std.proofs.Common.{rules, tests, ◌∙◌}
+use Rattle.std.proofs.lemmas.Iterator.{YieldsList-from_slice, YieldsList-from_zip}
+use Rattle.std.proofs.lemmas.Iterator.Search.{any_from_yields_List}
+use Rattle.filters.specs.declared.small.Small.{Small}
+use Rattle.filters.specs.Bits.{share}
+use Rattle.filters.specs.WordLaws.{share_full}
 use Rattle.filters.proofs.large.LargeFilter.meets.Goals as goal
 
-pub loop-k-init : goal.loop-k-init
-loop-k-init c = some_none _
-
-pub returns-then-self-k-ne0 : goal.returns-then-self-k-ne0
-returns-then-self-k-ne0 c =
-    let v = c.args.self.now.words in
-    let w = c.args.other.now.words in
-    let k = c.loop-k.k in
-    sym (some_found (share_at v w) 32 k (omega arith)
-    (and_shares (get_or v k 0) (get_or w k 0) c.if-self-k-ne0.true))
-
-pub loop-k-preserved : goal.loop-k-preserved
-loop-k-preserved c =
-    let v = c.args.self.now.words in
-    let w = c.args.other.now.words in
-    let k = c.loop-k.k in
-    some_more (share_at v w) k c.loop-k.invariant (and_apart (get_or v k 0) (get_or w k 0) c.if-self-k-ne0.false)
+pub returns : goal.returns
+returns c =
+    any_from_yields_List (λ (p : Small × Small). share p.0.bits p.1.bits) c.any.new.self _ c.any.result c.any.ensures.ran
+    (YieldsList-from_zip
+    (YieldsList-from_slice c.args.self.now.words cc)
+    (YieldsList-from_slice c.args.other.now.words cc))
+    (λ x b q k. search (rules, tests))
+    ∙ share_full c.args.self.now.words c.args.other.now.words c.args.self.now.full c.args.other.now.full
