@@ -12,7 +12,8 @@ pub struct Refused<T> {
     pub refusal: Refusal,
 }
 
-// Why a read or a commit is not accepted: a `Denial` that hands a refused transaction back.
+// Why a read or a commit is not accepted: a `Denial` that hands a refused transaction back. One generic type for both would say
+// so of neither.
 pub enum Denied {
     Refused(Refused<OpenTransaction>),
     // The transaction has ended.

@@ -7,8 +7,8 @@ pub enum Area {
     Tags,
 }
 
-// Not the engine's `Settings`, since the text of schedules stands without the engine.
 // The numbers of a memory and its engine: how long the ring is, how many tasks there are, how long a log is, the last place, and how many cells there are.
+// Not the engine's `Settings`, since the text of schedules stands without the engine.
 #[derive(Clone, Copy, Debug, PartialEq, Eq)]
 pub struct Making {
     pub slots: u32,

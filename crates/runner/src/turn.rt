@@ -36,7 +36,8 @@ fn worked(task: u32, progress: Worked) -> Report
     }
 }
 
-// An engine that is made, over its memory and its arrays, and what its cells hold.
+// An engine that is made, over its memory and its arrays, and what its cells hold. A struct of this crate: one for every owner
+// would be public in `engine`, promise nothing, and still be named with each owner's types.
 #[derive(Drop)]
 pub(crate) struct Session<'r, 't, 'a, 'c, M, F, C> {
     pub(crate) engine: Engine,
@@ -46,7 +47,8 @@ pub(crate) struct Session<'r, 't, 'a, 'c, M, F, C> {
 }
 
 impl<C: Face, M: Memory<Cell = C>, F: Filter> Session<'_, '_, '_, '_, M, F, C> {
-    // Makes the call that the line asks for.
+    // Makes the call that the line asks for. Each answer is matched, since a refused call has its line too: with `?` a report
+    // would stand on both sides.
     pub(crate) fn turn(&mut self, command: Command) -> Report
         requires { MayFollow self.old.area command }
         ensures played { Played F.Filter C.Face.made C.Face.shown (state M.contents self.old) command result (state M.contents self.new) }
