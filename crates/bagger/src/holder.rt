@@ -70,13 +70,15 @@ impl Held {
     }
 }
 
-// A task that holds nothing can begin.
+// A task that holds nothing can begin. Neither the engine's record nor a cell of the memory changes.
 fn idle<M: Memory, F: Filter>(
     controller: &mut Controller<'_, '_, '_, '_, M, F>,
     task: Task,
     act: Act<M::Cell>,
 ) -> Result<Turn<M::Cell>, Refusal>
-    ensures { IfOk result (λ turn. Own (number task) turn.held) }
+    ensures own { IfOk result (λ turn. Own (number task) turn.held) }
+    ensures engine { controller.new.engine ≡ controller.old.engine }
+    ensures memory { M.contents controller.new.memory ≡ M.contents controller.old.memory }
 {
     let Act::Begin = act else {
         return Ok(Turn::new(Held::Nothing, Outcome::OutOfTurn));
@@ -90,13 +92,14 @@ fn idle<M: Memory, F: Filter>(
     Ok(Turn::new(Held::Open(transaction), Outcome::Began(start)))
 }
 
-// An open transaction can be read and written through, committed and quit.
+// An open transaction can be read and written through, committed and quit. No cell of the memory changes before a work.
 fn open<M: Memory, F: Filter>(
     transaction: OpenTransaction,
     controller: &mut Controller<'_, '_, '_, '_, M, F>,
     act: Act<M::Cell>,
 ) -> Result<Turn<M::Cell>, Denied>
-    ensures { MatchResult result (λ turn. Own transaction.task turn.held) (λ denied. DeniedHands transaction.task denied) }
+    ensures own { MatchResult result (λ turn. Own transaction.task turn.held) (λ denied. DeniedHands transaction.task denied) }
+    ensures memory { M.contents controller.new.memory ≡ M.contents controller.old.memory }
 {
     let Controller {
         engine,
@@ -122,13 +125,14 @@ fn open<M: Memory, F: Filter>(
     }
 }
 
-// A committed transaction can be worked on.
+// A committed transaction can be worked on. The engine's record does not change.
 fn committed<M: Memory, F: Filter>(
     transaction: CommittedTransaction,
     controller: &mut Controller<'_, '_, '_, '_, M, F>,
     act: Act<M::Cell>,
 ) -> Result<Turn<M::Cell>, Refused<CommittedTransaction>>
-    ensures { MatchResult result (λ turn. Own transaction.task turn.held) (λ refused. refused.transaction.task ≡ transaction.task) }
+    ensures own { MatchResult result (λ turn. Own transaction.task turn.held) (λ refused. refused.transaction.task ≡ transaction.task) }
+    ensures engine { controller.new.engine ≡ controller.old.engine }
 {
     let Act::Work = act else {
         return Ok(Turn::new(Held::Committed(transaction), Outcome::OutOfTurn));

@@ -1,6 +1,7 @@
 // The refusals, each with its number. A refused call changes nothing.
-ghost use Rattle.std.specs.Prelude.{◌≡◌};
+ghost use Rattle.std.specs.Prelude.{◌≡◌, Some};
 ghost use Rattle.cells.specs.Refusals.{number};
+ghost use Rattle.cells.specs.Texts.{refusal_text};
 
 use std::fmt;
 
@@ -52,6 +53,8 @@ impl Refusal {
 }
 
 impl fmt::Display for Refusal {
+    ghost output = { λ refusal. Some (refusal_text refusal) };
+
     fn fmt<W: fmt::Write>(&self, f: &mut fmt::Formatter<W>) -> fmt::Result {
         match *self {
             Refusal::RingLength => write!(f, "ring length"),

@@ -1,6 +1,7 @@
 // The tags memory: a byte array, five bytes a cell. Bytes behind the last whole cell are left as they are.
-ghost use Rattle.std.specs.Prelude.{◌≡◌, ◌<◌, length};
+ghost use Rattle.std.specs.Prelude.{◌≡◌, ◌<◌, length, Some};
 ghost use Rattle.cells.specs.Tags.{count, leftover, stored, tag_at, tags};
+ghost use Rattle.cells.specs.Texts.{tag_text};
 
 use crate::memory::Memory;
 use crate::refusal::Refusal;
@@ -19,6 +20,8 @@ pub struct Tag {
 }
 
 impl fmt::Display for Tag {
+    ghost output = { λ tag. Some (tag_text tag) };
+
     fn fmt<W: fmt::Write>(&self, f: &mut fmt::Formatter<W>) -> fmt::Result {
         let value = self.value;
         match self.quality {

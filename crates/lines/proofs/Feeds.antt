@@ -9,7 +9,7 @@ use Rattle.lines.specs.declared.command.Area.TheVariants.{Words, Tags}
 use Rattle.lines.specs.declared.command.Command.{Command}
 use Rattle.lines.specs.declared.command.Command.TheVariants.{Make}
 use Rattle.lines.specs.declared.report.Report.{Report}
-use Rattle.lines.specs.declared.report.Report.TheVariants.{Made, Began, Read, Wrote, Committed, Left, Done, Quit as Gone, Conflict, Overrun, Refused, Broken}
+use Rattle.lines.specs.declared.report.Report.TheVariants.{Made, Began, Read, Wrote, Committed, Left, Done, Quit as Gone, Conflict, Overrun, Refused, Numbered, Broken}
 use Rattle.lines.proofs.Decimals.{Digits, decimal-digits}
 
 -- No byte of the list is a line feed.
@@ -111,4 +111,6 @@ printed_feed (Gone task logged) = numbers_feed 113 (task ∷ logged ∷ []) (λ 
 printed_feed (Conflict task place compared) = numbers_feed 120 (task ∷ place ∷ compared ∷ []) (λ e. omega arith)
 printed_feed (Overrun task compared) = numbers_feed 111 (task ∷ compared ∷ []) (λ e. omega arith)
 printed_feed (Refused reason) = numbers_feed 101 (told reason) (λ e. omega arith)
+printed_feed (Numbered number None) = numbers_feed 101 (number ∷ []) (λ e. omega arith)
+printed_feed (Numbered number (Some place)) = numbers_feed 101 (number ∷ place ∷ []) (λ e. omega arith)
 printed_feed (Broken at) = numbers_feed 101 (9 ∷ at ∷ []) (λ e. omega arith)

@@ -9,7 +9,7 @@ use Rattle.lines.specs.Line.{byte, line_of}
 use Rattle.lines.specs.declared.report.Output.{Output}
 use Rattle.lines.specs.declared.report.Short.{Short}
 use Rattle.lines.specs.declared.report.Report.{Report}
-use Rattle.lines.specs.declared.report.Report.TheVariants.{Made, Began, Read, Wrote, Committed, Left, Done, Quit, Conflict, Overrun, Refused, Broken}
+use Rattle.lines.specs.declared.report.Report.TheVariants.{Made, Began, Read, Wrote, Committed, Left, Done, Quit, Conflict, Overrun, Refused, Numbered, Broken}
 
 -- A place in decimal, or `-` where there is none.
 abbrev pub placed : Option ℕ → List ℕ
@@ -35,6 +35,8 @@ printed (Quit task logged) = line_of (byte "q") (map decimal (task ∷ logged �
 printed (Conflict task place compared) = line_of (byte "x") (map decimal (task ∷ place ∷ compared ∷ []))
 printed (Overrun task compared) = line_of (byte "o") (map decimal (task ∷ compared ∷ []))
 printed (Refused reason) = line_of (byte "e") (map decimal (told reason))
+printed (Numbered number None) = line_of (byte "e") (map decimal (number ∷ []))
+printed (Numbered number (Some place)) = line_of (byte "e") (map decimal (number ∷ place ∷ []))
 printed (Broken at) = line_of (byte "e") (map decimal (9 ∷ at ∷ []))
 
 -- The most bytes that the line of a report takes, by the digits of its task: every other number has at most ten digits.
@@ -52,6 +54,8 @@ room (Conflict task place compared) = 25 + length (decimal task)
 room (Overrun task compared) = 14 + length (decimal task)
 room (Refused (MustWait place)) = 24
 room (Refused reason) = 13
+room (Numbered number None) = 13
+room (Numbered number (Some place)) = 24
 room (Broken at) = 24
 
 -- The bytes of the line stand in the output from `at` on, and all others are as they were; `end` is the position behind them.

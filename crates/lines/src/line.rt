@@ -40,14 +40,27 @@ impl Line {
         self.bytes.try_extend_from_slice(word).unwrap();
     }
 
-    // A space, and the number in decimal.
+    // A space, and a word of one byte.
+    fn byte(&mut self, byte: u8)
+        requires { length self.old + 2 ≤ 64 }
+        ensures { self.new ≡ self.old ++ (32 ∷ byte ∷ []) }
+    {
+        self.bytes.push(b' ');
+        self.bytes.push(byte);
+    }
+
+    // A space, and the number in decimal. Most numbers of a report have one digit, which needs no buffer.
     pub(crate) fn number(&mut self, n: u32)
         requires { length self.old + 11 ≤ 64 }
         ensures text { self.new ≡ self.old ++ (32 ∷ decimal n) }
         ensures ten { length (decimal n) ≤ 10 }
     {
-        let mut buffer = Buffer::new();
-        self.word(buffer.format(n).as_bytes());
+        if n < 10 {
+            self.byte(b'0' + n as u8);
+        } else {
+            let mut buffer = Buffer::new();
+            self.word(buffer.format(n).as_bytes());
+        }
     }
 
     // The line feed.

@@ -1,7 +1,7 @@
 // The lines of a report.
-ghost use Rattle.std.specs.Prelude.{◌≡◌, ◌+◌, ◌≤◌, length};
+ghost use Rattle.std.specs.Prelude.{◌≡◌, ◌+◌, ◌≤◌, length, MatchOption};
 ghost use Rattle.lines.specs.Decimal.{decimal};
-ghost use Rattle.lines.specs.Printed.{printed, room, Writes};
+ghost use Rattle.lines.specs.Printed.{printed, room, Full, Put, Writes};
 
 use crate::command::Area;
 use crate::line::Line;
@@ -52,6 +52,11 @@ pub enum Report {
         compared: u32,
     },
     Refused(Refusal),
+    // A refusal that is known by its number alone, with the place waited for where one is known.
+    Numbered {
+        number: u32,
+        place: Option<u32>,
+    },
     Broken {
         line: u32,
     },
@@ -148,6 +153,14 @@ impl From<Report> for Line {
             } => Line::of(b'x', &[task, place, compared]),
             Report::Overrun { task, compared } => Line::of(b'o', &[task, compared]),
             Report::Refused(reason) => refused(reason),
+            Report::Numbered {
+                number,
+                place: None,
+            } => Line::of(b'e', &[number]),
+            Report::Numbered {
+                number,
+                place: Some(place),
+            } => Line::of(b'e', &[number, place]),
             Report::Broken { line } => Line::of(b'e', &[Refusal::BrokenLine.code(), line]),
         }
     }
@@ -202,4 +215,19 @@ impl<'a> Output<'a> {
     {
         self.put(Line::from(report).as_slice())
     }
+}
+
+// Writes the line of the report behind `at`, any position, and answers the position behind the line, or `None` where it does not
+// fit.
+pub fn print(report: Report, out: &mut [u8], at: usize) -> Option<usize>
+    ensures writes { MatchOption result (Full (printed report) at out.old out.new) (Put (printed report) at out.old out.new) }
+    ensures short { length (printed report) ≤ 64 }
+    ensures room { length (printed report) ≤ room report }
+{
+    let mut output = Output {
+        bytes: out,
+        written: at,
+    };
+    output.print(report).ok()?;
+    Some(output.written)
 }

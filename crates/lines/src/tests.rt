@@ -1,7 +1,7 @@
 // Lines as they are read and printed.
 use crate::command::{Area, Command, Making};
 use crate::reader::{Broken, Reader};
-use crate::report::{Output, Report, Short};
+use crate::report::{Output, Report, Short, print};
 use std::process::Abort;
 
 #[test]
@@ -48,15 +48,19 @@ fn refuses_other_lines(rt: HostRuntime) {
 
 #[test]
 fn prints_a_line(rt: HostRuntime) {
-    let mut bytes = [0; 12];
+    let mut out = [0; 12];
     let report = Report::Committed {
         task: 1,
         place: None,
         compared: 20,
     };
-    let mut output = Output::new(&mut bytes[3..]);
+    assert_eq!(rt; print(report, &mut out, 3), Some(12));
+    assert_eq!(rt; out, *b"\0\0\0c 1 - 20\n");
+    assert_eq!(rt; print(report, &mut out, 4), None);
+    assert_eq!(rt; print(report, &mut out, 13), None);
+    let mut output = Output::new(&mut out[3..]);
     assert_eq!(rt; output.print(report), Ok(()));
     assert_eq!(rt; output.written(), 9);
     assert_eq!(rt; output.print(report), Err(Short));
-    assert_eq!(rt; bytes, *b"\0\0\0c 1 - 20\n");
+    assert_eq!(rt; out, *b"\0\0\0c 1 - 20\n");
 }

@@ -8,15 +8,15 @@ returns-then-blocks g c = record {
   below = omega arith;
   above = omega arith;
   blocks = c.if-blocks.ensures;
-  highest = λ i above below. c.loop-older.invariant i (omega arith) below;
+  highest = λ i above below. c.loop-passed.invariant i (omega arith) below;
 }
 
-pub loop-older-preserved : goal.loop-older-preserved
-loop-older-preserved g c = λ i above below.
+pub loop-passed-preserved : goal.loop-passed-preserved
+loop-passed-preserved g c = λ i above below.
     ⊎_elim
     (λ same. subst (λ (k : ℕ). Meets g.F.Filter (length c.args.ring.now) c.args.ring.now c.args.writes.now k → ⊥) same c.if-blocks.ensures)
-    (λ other. c.loop-older.invariant i (omega arith) below)
-    (cases_eq (c.loop-older.older - 1) i)
+    (λ other. c.loop-passed.invariant i (omega arith) below)
+    (cases_eq (c.args.place - c.loop-passed.passed) i)
 
 pub returns : goal.returns
-returns g c = λ i above below. c.loop-older.invariant i (omega (arith, c.saturating_add-older-start.ensures)) below
+returns g c = λ i above below. c.loop-passed.invariant i (omega arith) below
