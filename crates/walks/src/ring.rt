@@ -38,10 +38,7 @@ pub fn unfinished<F: Filter>(ring: &[Entry<F>], place: u32) -> bool
 pub fn settled<F: Filter>(ring: &[Entry<F>], index: u32) -> u32
     ensures { Settled (length ring.now) ring.now index result }
 {
-    // Counted down from the index, as the check does: a reversed range is compiled with its places in 64 bits, and then the slot
-    // of a place below the ring's length costs a division too.
-    for passed in 0..index {
-        let start = index - passed;
+    for start in (1..=index).rev() {
         if !unfinished(ring, start) {
             return start;
         }
@@ -64,12 +61,13 @@ fn blocks<F: Filter>(ring: &[Entry<F>], writes: &F, place: u32) -> bool
 fn blocking<F: Filter>(ring: &[Entry<F>], writes: &F, start: u32, place: u32) -> Option<u32>
     ensures { Blocking F.Filter (length ring.now) ring.now writes.now start place result }
 {
-    // Counted down, as in `settled`.
-    for passed in 1..place.saturating_sub(start) {
-        let older = place - passed;
+    // A `while`: a range up to `place` is compiled with its places in 64 bits, so that each slot costs a division.
+    let mut older = place.saturating_sub(1);
+    while older > start {
         if blocks(ring, writes, older) {
             return Some(older);
         }
+        older -= 1;
     }
     None
 }
